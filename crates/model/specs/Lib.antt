@@ -1,1 +1,10 @@
 pub mod Told
+pub mod Lists
+pub mod Format
+pub mod Table
+pub mod Image
+pub mod Making
+pub mod Shapes
+pub mod Formed
+pub mod Rules
+pub mod Room
