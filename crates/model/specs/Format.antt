@@ -1,5 +1,7 @@
 -- The numbers of the format and its limits: each stands here, and nowhere else. Assumes nothing.
 use Prim.Native.Nat.{ℕ, _+_, _*_}
+use mathlib.Core.Bool.{Bool, cond, _&&_}
+use lib.Dec.{eqb, leb}
 
 -- "One lent slice of 32-bit words": a word is below this
 abbrev pub wordEnd : ℕ
@@ -104,6 +106,19 @@ pendingWidth = 2
 
 abbrev pub equalsWidth : ℕ
 equalsWidth = 2
+
+-- region k's width; outside 1 to 6 there is none
+abbrev pub isRegion : ℕ → Bool
+isRegion k = leb entriesRegion k && leb k equalsRegion
+
+unfoldable pub widthOf : ℕ → ℕ
+widthOf k =
+    cond (eqb k entriesRegion) entryWidth
+    (cond (eqb k fieldsRegion) fieldWidth
+    (cond (eqb k boundsRegion) boundWidth
+    (cond (eqb k visitedRegion) visitedWidth
+    (cond (eqb k pendingRegion) pendingWidth
+    equalsWidth))))
 
 -- "capacity at most"
 abbrev pub entriesMost : ℕ

@@ -74,8 +74,8 @@ bit true = 1
 
 -- an attrset: first field record, number of fields, open, dynamic present, dynamic type
 abbrev pub toldAttrset : ℕ → ℕ → Bool → Dynamic → List ℕ
-toldAttrset first count open? D.Absent = 4 ∷ first ∷ count ∷ bit open? ∷ 0 ∷ 0 ∷ []
-toldAttrset first count open? (D.Present type) = 4 ∷ first ∷ count ∷ bit open? ∷ 1 ∷ type ∷ []
+toldAttrset first count isOpen D.Absent = 4 ∷ first ∷ count ∷ bit isOpen ∷ 0 ∷ 0 ∷ []
+toldAttrset first count isOpen (D.Present type) = 4 ∷ first ∷ count ∷ bit isOpen ∷ 1 ∷ type ∷ []
 
 -- an entry: its kind, and what the kind holds
 abbrev pub toldEntry : Entry → List ℕ
@@ -83,7 +83,7 @@ toldEntry (E.Variable level) = 0 ∷ level ∷ []
 toldEntry (E.Primitive which) = 1 ∷ which ∷ []
 toldEntry (E.List element) = 2 ∷ element ∷ []
 toldEntry (E.Lambda param body) = 3 ∷ param ∷ body ∷ []
-toldEntry (E.AttrSet a) = toldAttrset (a .first) (a .count) (a .open) (a .dynamic)
+toldEntry (E.AttrSet a) = toldAttrset (a .first) (a .count) (a .is_open) (a .dynamic)
 toldEntry (E.Named inner label) = 5 ∷ inner ∷ label ∷ []
 toldEntry (E.Neg inner) = 6 ∷ inner ∷ []
 toldEntry (E.Inter left right) = 7 ∷ left ∷ right ∷ []
