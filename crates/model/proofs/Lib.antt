@@ -1,3 +1,4 @@
 pub mod OneToOne
 pub mod Bench
 pub mod Damage
+pub mod Refusals
