@@ -2,7 +2,7 @@
 // specs/Operators.antt says what each call answers.
 use model::Refusal;
 ghost use mathlib.Core.Path.{_≡_};
-ghost use Rattle.operators.specs.Operators.{result, resolved, fromLeft, atOnce};
+ghost use Rattle.operators.specs.Operators.{add, result, resolved, fromLeft, atOnce};
 ghost use Rattle.operators.specs.NumericOnly.{NumericOnly};
 
 // The operators, 0 to 3.
@@ -60,7 +60,7 @@ pub fn resolve(op: u32, left: u32, right: u32) -> Resolved
 
 // Add takes numbers, and joins texts: the left one's primitive.
 fn resolve_add(left: u32, right: u32) -> Resolved
-    ensures { λ r. ⌜ r ≡ result 0 left right ⌝ }
+    ensures { λ r. ⌜ r ≡ result add left right ⌝ }
 {
     match left {
         STRING | PATH => match right {
