@@ -31,10 +31,9 @@ pub record Change : Type 0 where
   pub place : ℕ
   pub value : ℕ
 
+infix 70 _at_
 pub _at_ : ℕ → ℕ → Change
 v at i = record { place = i; value = v }
-
-infix 70 _at_
 
 pub hurt : List Change → List ℕ → List ℕ
 hurt [] ws = ws

@@ -5,7 +5,7 @@ use mathlib.Core.List.{List, [], _∷_, _++_}
 use mathlib.Core.Bool.{Bool, true, false, not, cond, _&&_, _||_}
 use lib.ListN.{length, take, drop}
 use lib.Dec.{eqb, leb, ltb}
-use Rattle.instalments.specs.Machine.{Room, enough, lacks, Result, yes-in, fail-in, more-at, Roomed, answered, refused-in} 
+use Rattle.instalments.specs.Machine.{Room, enough, lacks, Result, yes-in, fail-in, more-at, Roomed, answered, refused-in}
 use Rattle.instalments.specs.Machine as machine
 use Rattle.model.specs.Lists.{isZero, allOf, all, readMany}
 use Rattle.model.specs.Format.{wordEnd, fieldWidth, isRegion, widthOf, unbroken, entriesMost, fieldsMost, boundsMost, visitedMost, pendingMost, equalsMost, namesMost}
