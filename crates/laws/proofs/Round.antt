@@ -2,7 +2,7 @@
 use Prim.Native.Nat.{ℕ, zero, suc, _+_, _-_, _*_, _≤_, _<_}
 use native.Mathlib.Omega.{arith}
 use mathlib.Core.Path.{_≡_, refl, sym, ap, _∙_}
-use mathlib.Core.List.{List, [], _∷_, _++_, append-assoc}
+use mathlib.Core.List.{List, [], _∷_, _++_, append-assoc, append-nil}
 use mathlib.Core.Bool.{Bool, true, false, cond}
 use lib.ListN.{length, getD, take, drop, length-append, length-drop}
 use lib.Seq.{take-add, take-length, drop-at, drop-drop, getD-drop}
@@ -33,7 +33,7 @@ onward {f = f} {width = width} c ws at capacity l r h e =
 
 -- the regions of a table's words, each from its start on
 abbrev fromEquals : Table → List ℕ
-fromEquals t = region pairWords equalsWidth (t .store .capacities .equals) (t .store .equals)
+fromEquals t = region pairWords equalsWidth (t .store .capacities .equals) (t .store .equals) ++ []
 
 abbrev fromPending : Table → List ℕ
 fromPending t = region pairWords pendingWidth (t .store .capacities .pending) (t .pending) ++ fromEquals t
@@ -72,10 +72,41 @@ module _ (t : Table) (h : Held (t .store)) (k : length (t .pending) ≤ t .store
       let w = words t in
       let s = t .store in
       let c = s .capacities in
-      let at1 : drop headerWords w ≡ fromEntries t = simp append-assoc (drop-at (header t) (fromEntries t) headerWords (header-length t)) in
+      let at1 : drop headerWords w ≡ fromEntries t = 
+      simp (append-assoc, append-nil) (simp append-nil at (drop-at (header t) (fromEntries t) headerWords (header-length t))) in
       let at2 : drop (fieldsStart c) w ≡ fromFields t = onward entry-coded w headerWords (c .entries) (s .entries) (fromFields t) (h .entries) at1 in
       let at3 : drop (boundsStart c) w ≡ fromBounds t = onward field-coded w (fieldsStart c) (c .fields) (s .fields) (fromBounds t) (h .fields) at2 in
       let at4 : drop (visitedStart c) w ≡ fromVisited t = onward bound-coded w (boundsStart c) (c .bounds) (s .bounds) (fromVisited t) (h .bounds) at3 in
       let at5 : drop (pendingStart c) w ≡ fromPending t = onward pair-coded w (visitedStart c) (c .visited) (s .visited) (fromPending t) (h .visited) at4 in
       let at6 : drop (equalsStart c) w ≡ fromEquals t = onward pair-coded w (pendingStart c) (c .pending) (t .pending) (fromEquals t) k at5 in
       record { entries = at1; fields = at2; bounds = at3; visited = at4; pending = at5; equals = at6 }
+
+-- a region of some words, read
+back :
+    {A : Type 0} {f : A → List ℕ} {of : List ℕ → A} {width : ℕ} → Coded f of width
+    → (ws : List ℕ) (at capacity : ℕ) (l : List A) (r : List ℕ)
+    → drop at ws ≡ region f width capacity l ++ r → readMany of (drop width) (length l) (drop at ws) ≡ l
+back c ws at capacity l r e = rw e (region-back c capacity l r)
+
+pub table-words : (t : Table) → Held (t .store) → length (t .pending) ≤ t .store .capacities .pending → table (words t) ≡ t
+unfolding table recordsOf words header
+table-words t h k =
+    let w = words t in
+    let s = t .store in
+    let c = s .capacities in
+    let at = laid t h k in
+    λ i. record {
+      store = record {
+        level = s .level;
+        names = s .names;
+        functor = s .functor;
+        broken = s .broken;
+        capacities = c;
+        entries = back entry-coded w headerWords (c .entries) (s .entries) (fromFields t) (at .entries) i;
+        fields = back field-coded w (fieldsStart c) (c .fields) (s .fields) (fromBounds t) (at .fields) i;
+        bounds = back bound-coded w (boundsStart c) (c .bounds) (s .bounds) (fromVisited t) (at .bounds) i;
+        visited = back pair-coded w (visitedStart c) (c .visited) (s .visited) (fromPending t) (at .visited) i;
+        equals = back pair-coded w (equalsStart c) (c .equals) (s .equals) [] (at .equals) i;
+      };
+      pending = back pair-coded w (pendingStart c) (c .pending) (t .pending) (fromEquals t) (at .pending) i;
+    }
