@@ -110,3 +110,97 @@ table-words t h k =
       };
       pending = back pair-coded w (pendingStart c) (c .pending) (t .pending) (fromEquals t) (at .pending) i;
     }
+
+-- what the tests of a region say
+pub record RegionIs (ws : List ℕ) (k width most at : ℕ) : Type 0 where
+  pub starts : offset ws k ≡ at
+  pub small : capacity ws k ≤ most
+  pub held : count ws k ≤ capacity ws k
+  pub rest : T (restZero ws k width)
+
+region-is : (ws : List ℕ) (k width most at : ℕ) → T (regionRight ws k width most at) → RegionIs ws k width most at
+unfolding regionRight
+region-is ws k width most at h = record { starts = eq-of _ _ (nth _ 0 h); small = le-of _ _ (nth _ 1 h); held = le-of _ _ (nth _ 2 h); rest = nth _ 3 h }
+
+pub record RegionsAre (ws : List ℕ) : Type 0 where
+  pub entries : RegionIs ws entriesRegion entryWidth entriesMost headerWords
+  pub fields : RegionIs ws fieldsRegion fieldWidth fieldsMost (regionEnd ws entriesRegion entryWidth)
+  pub bounds : RegionIs ws boundsRegion boundWidth boundsMost (regionEnd ws fieldsRegion fieldWidth)
+  pub visited : RegionIs ws visitedRegion visitedWidth visitedMost (regionEnd ws boundsRegion boundWidth)
+  pub pending : RegionIs ws pendingRegion pendingWidth pendingMost (regionEnd ws visitedRegion visitedWidth)
+  pub equals : RegionIs ws equalsRegion equalsWidth equalsMost (regionEnd ws pendingRegion pendingWidth)
+  pub end : regionEnd ws equalsRegion equalsWidth ≡ length ws
+
+pub regions-are : (ws : List ℕ) → T (wellFormed ws) → RegionsAre ws
+unfolding wellFormed regionsRight
+regions-are ws h =
+    let r = nth _ 7 h in
+    record {
+      entries = region-is _ _ _ _ _ (nth _ 0 r);
+      fields = region-is _ _ _ _ _ (nth _ 1 r);
+      bounds = region-is _ _ _ _ _ (nth _ 2 r);
+      visited = region-is _ _ _ _ _ (nth _ 3 r);
+      pending = region-is _ _ _ _ _ (nth _ 4 r);
+      equals = region-is _ _ _ _ _ (nth _ 5 r);
+      end = eq-of _ _ (nth _ 6 r);
+    }
+
+-- the words up to a region, and the region's, are the words up to its end
+upTo :
+    {A : Type 0} {f : A → List ℕ} {of : List ℕ → A} {width : ℕ} → Coded f of width
+    → (ws : List ℕ) (k most at : ℕ) (p : List ℕ) → RegionIs ws k width most at → regionEnd ws k width ≤ length ws → p ≡ take at ws
+    → p ++ region f width (capacity ws k) (recordsOf of width ws k) ≡ take (regionEnd ws k width) ws
+unfolding regionEnd restZero recordsOf
+upTo {width = width} c ws k most at p r fits e =
+    rw
+    (e, ← r .starts,
+    region-read c (count ws k) (capacity ws k) (drop (offset ws k) ws) (r .held) (rw length-drop (omega arith)) (rw drop-drop (r .rest)))
+    (sym (take-add (offset ws k) (width * capacity ws k) ws))
+
+state-is : (l : List Pair) (state n : ℕ) → length l ≡ n → T (leb state asked) → T (cond (eqb state idle) (isZero n) (leb 1 n)) → stateOf l ≡ state
+unfolding stateOf
+state-is [] zero n e known h = refl
+state-is [] (suc zero) n e known h = absurd (let q = le-of 1 n h in omega arith)
+state-is (p ∷ ps) zero n e known h = absurd (let q = eq-of n 0 h in omega arith)
+state-is (p ∷ ps) (suc zero) n e known h = refl
+state-is l (suc (suc state)) n e known h = absurd (let q = le-of (suc (suc state)) 1 known in omega arith)
+
+pub records-length : {A : Type 0} (of : List ℕ → A) (width : ℕ) (ws : List ℕ) (k : ℕ) → length (recordsOf of width ws k) ≡ count ws k
+unfolding recordsOf
+records-length of width ws k = read-length of (drop width) (count ws k) (drop (offset ws k) ws)
+
+module _ (ws : List ℕ) (h : T (wellFormed ws)) where
+  header-words : header (table ws) ≡ take headerWords ws
+  unfolding header table wellFormed headerWhole formatKnown stateKnown pendingWhenAsked regionEnd firstWords
+  header-words =
+      let r = regions-are ws h in
+      let format : 1 ≡ word ws 0 = sym (eq-of _ _ (nth _ 2 h)) in
+      let state : stateOf (table ws .pending) ≡ word ws 1 =
+      state-is (table ws .pending) (word ws 1) (count ws pendingRegion) (records-length pairOf pendingWidth ws pendingRegion) (nth _ 3 h) (nth _ 4 h) in
+      let at1 : headerWords ≡ offset ws entriesRegion = omega arith in
+      let at2 : fieldsStart (table ws .store .capacities) ≡ offset ws fieldsRegion = omega arith in
+      let at3 : boundsStart (table ws .store .capacities) ≡ offset ws boundsRegion = omega arith in
+      let at4 : visitedStart (table ws .store .capacities) ≡ offset ws visitedRegion = omega arith in
+      let at5 : pendingStart (table ws .store .capacities) ≡ offset ws pendingRegion = omega arith in
+      let at6 : equalsStart (table ws .store .capacities) ≡ offset ws equalsRegion = omega arith in
+      (λ i. format i ∷ state i ∷ word ws 2 ∷ word ws 3 ∷ word ws 4 ∷ word ws 5 ∷ word ws 6 ∷ word ws 7 ∷ word ws 8
+      ∷ at1 i ∷ word ws 10 ∷ records-length entryOf entryWidth ws entriesRegion i
+      ∷ at2 i ∷ word ws 13 ∷ records-length fieldOf fieldWidth ws fieldsRegion i
+      ∷ at3 i ∷ word ws 16 ∷ records-length boundOf boundWidth ws boundsRegion i
+      ∷ at4 i ∷ word ws 19 ∷ records-length pairOf visitedWidth ws visitedRegion i
+      ∷ at5 i ∷ word ws 22 ∷ records-length pairOf pendingWidth ws pendingRegion i
+      ∷ at6 i ∷ word ws 25 ∷ records-length pairOf equalsWidth ws equalsRegion i
+      ∷ [])
+      ∙ sym (first-words headerWords ws (le-of _ _ (nth _ 1 h)) ∙ simp getD-drop)
+
+  pub words-table : words (table ws) ≡ ws
+  unfolding words table regionEnd
+  words-table =
+      let r = regions-are ws h in
+      let u1 = upTo entry-coded ws entriesRegion entriesMost headerWords _ (r .entries) (omega arith) header-words in
+      let u2 = upTo field-coded ws fieldsRegion fieldsMost _ _ (r .fields) (omega arith) u1 in
+      let u3 = upTo bound-coded ws boundsRegion boundsMost _ _ (r .bounds) (omega arith) u2 in
+      let u4 = upTo pair-coded ws visitedRegion visitedMost _ _ (r .visited) (omega arith) u3 in
+      let u5 = upTo pair-coded ws pendingRegion pendingMost _ _ (r .pending) (omega arith) u4 in
+      let u6 = upTo pair-coded ws equalsRegion equalsMost _ _ (r .equals) (omega arith) u5 in
+      u6 ∙ rw (r .end) (take-length ws)
