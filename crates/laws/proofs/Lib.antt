@@ -1,3 +1,4 @@
 pub mod Tests
 pub mod Regions
 pub mod Round
+pub mod Formed
