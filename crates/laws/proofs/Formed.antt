@@ -17,20 +17,8 @@ use Rattle.model.specs.Formed.{wellFormed, wordsFit, namesFew, functorKnown, en
 use Rattle.laws.specs.Good.{Good, Small, Held, Shallow, SoundStore, PendingRight, Sound, freeFits, spreadIs, entryGood}
 use Rattle.laws.proofs.Tests.{nth, both, first, second, if-passed, none, _and_, all-passed, all-at, all-right, places-at, le-of, of-lt, lt-of}
 use Rattle.laws.proofs.Regions.{all-read}
+use Rattle.laws.proofs.Fits.{fits, fits-at, fits-from}
 use Rattle.laws.proofs.Round.{regions-are, records-length}
-
-abbrev fits : ℕ → Bool
-fits n = ltb n wordEnd
-
--- words that fit, read anywhere and from anywhere on
-fits-at : (ws : List ℕ) → T (all fits ws) → (i : ℕ) → word ws i < wordEnd
-unfolding all
-fits-at [] h i = lt-of 0 wordEnd tt
-fits-at (x ∷ ws) h zero = lt-of x wordEnd (first (fits x) (all fits ws) h)
-fits-at (x ∷ ws) h (suc i) = fits-at ws (second (fits x) (all fits ws) h) i
-
-fits-from : (ws : List ℕ) → T (all fits ws) → (i : ℕ) → T (all fits (drop i ws))
-fits-from ws h i = all-right fits (take i ws) (drop i ws) (rw take-append-drop h)
 
 formed-fits : (ws : List ℕ) → T (wellFormed ws) → T (all fits ws)
 unfolding wellFormed wordsFit
@@ -63,9 +51,6 @@ module _ (es : List Entry) (fs : List Field) (names i : ℕ) (e : Entry) where
   right-shallow h = le-of _ _ (second (spreadIs es e) (leb (e .spread) spreadMost) (nth _ 5 h))
 
 module _ (ws : List ℕ) (h : T (wellFormed ws)) where
-  s : Store
-  s = table ws .store
-
   right : T (recordsRight (table ws))
   unfolding wellFormed
   right = nth _ 8 h
