@@ -32,22 +32,22 @@ onward {f = f} {width = width} c ws at capacity l r h e =
     sym (drop-drop (width * capacity) at ws) ∙ rw e (drop-at (region f width capacity l) r (width * capacity) (region-length c capacity l h))
 
 -- the regions of a table's words, each from its start on
-abbrev fromEquals : Table → List ℕ
+abbrev pub fromEquals : Table → List ℕ
 fromEquals t = region pairWords equalsWidth (t .store .capacities .equals) (t .store .equals) ++ []
 
-abbrev fromPending : Table → List ℕ
+abbrev pub fromPending : Table → List ℕ
 fromPending t = region pairWords pendingWidth (t .store .capacities .pending) (t .pending) ++ fromEquals t
 
-abbrev fromVisited : Table → List ℕ
+abbrev pub fromVisited : Table → List ℕ
 fromVisited t = region pairWords visitedWidth (t .store .capacities .visited) (t .store .visited) ++ fromPending t
 
-abbrev fromBounds : Table → List ℕ
+abbrev pub fromBounds : Table → List ℕ
 fromBounds t = region boundWords boundWidth (t .store .capacities .bounds) (t .store .bounds) ++ fromVisited t
 
-abbrev fromFields : Table → List ℕ
+abbrev pub fromFields : Table → List ℕ
 fromFields t = region fieldWords fieldWidth (t .store .capacities .fields) (t .store .fields) ++ fromBounds t
 
-abbrev fromEntries : Table → List ℕ
+abbrev pub fromEntries : Table → List ℕ
 fromEntries t = region entryWords entryWidth (t .store .capacities .entries) (t .store .entries) ++ fromFields t
 
 pub record Laid (t : Table) : Type 0 where
