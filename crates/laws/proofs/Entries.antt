@@ -1,8 +1,9 @@
 -- Entry lists: what stays right as they grow or an entry changes, and each new entry is good. Assumes nothing.
 use Prim.Native.Nat.{ℕ, zero, suc, _+_, _*_, _-_, _≤_, _<_, _/_, _%_}
 use native.Mathlib.Omega.{arith}
+use native.Mathlib.Nat.{div-div-eq-div-mul}
 use mathlib.Core.Path.{_≡_, refl, sym, ap, _∙_}
-use mathlib.Core.List.{List, [], _∷_, _++_}
+use mathlib.Core.List.{List, [], _∷_, _++_, append-nil}
 use mathlib.Core.Bool.{Bool, true, false, cond, _&&_, _||_}
 use mathlib.Core.Logic.{_⊎_, inl, inr, ⊎-elim}
 use lib.ListN.{length, getD, set, take, drop, length-append, length-set, length-drop, List·getD-append}
@@ -10,8 +11,8 @@ use lib.Seq.{getD-append-seam, getD-set-same, getD-set-other, drop-append-le, ta
 use lib.Dec.{T, eqb, leb, ltb, eqb·suc-zero}
 use borrow.Author.Tests.{ltb-true, ltb-false, leb-true, leb-false, le-leb, lt-leb, eqb-true}
 use Rattle.model.specs.Lists.{_⇒_, isZero, allOf, all}
-use Rattle.model.specs.Format.{wordEnd, unbroken, mismatched, fieldMissing, variable, primitive, list, lambda, attrset, named, neg, inter, union}
-use Rattle.model.specs.Table.{Entry, Field, Bound, Pair, _⊑_, Break, Store, noEntry, entryAt, is, isAt, hasDynamic}
+use Rattle.model.specs.Format.{wordEnd, unbroken, mismatched, fieldMissing, variable, primitive, list, lambda, attrset, named, neg, inter, union, number}
+use Rattle.model.specs.Table.{Entry, Field, Bound, Pair, _⊑_, Break, Store, noEntry, entryAt, is, isAt, isOpen, hasDynamic}
 use Rattle.model.specs.Making.{spreadAt, spreadOf, Making, freshEntry, putEntry, newEntry, changed, withNegation, withMark}
 use Rattle.model.specs.Shapes.{fieldsOf}
 use Rattle.model.specs.Formed.{isEntry, pairRight, breakRight, oneComponent, twoComponents, hasDynamicType, kindKnown, primitiveKnown, componentsBelow, unusedZero, flagsKnown, negationKnown, namesAscend, fieldsRight, fieldRight, boundRight}
@@ -51,6 +52,18 @@ keeps-trans k l = record {
   flags = l .flags ∙ k .flags;
   spread = l .spread ∙ k .spread;
 }
+
+-- an attrset is as open, and has a dynamic type, as before
+quarter-same : (a b : ℕ) → a / 2 ≡ b / 2 → a / 4 ≡ b / 4
+quarter-same a b h = sym (div-div-eq-div-mul a 2 2) ∙ ap (λ (m : ℕ). m / 2) h ∙ div-div-eq-div-mul b 2 2
+
+pub keeps-open : {d e : Entry} → Keeps d e → isOpen e ≡ isOpen d
+unfolding isOpen
+keeps-open k = ap (λ (m : ℕ). eqb (m % 2) 1) (k .flags)
+
+pub keeps-dynamic : {d e : Entry} → Keeps d e → hasDynamic e ≡ hasDynamic d
+unfolding hasDynamic
+keeps-dynamic {d} {e} k = ap (λ (m : ℕ). eqb (m % 2) 1) (quarter-same (e .flags) (d .flags) (k .flags))
 
 pub kept-refl : (es : List Entry) → EntriesKept es es
 kept-refl es = record { longer = omega arith; kept = λ i lt. keeps-refl (entryAt es i) }
@@ -187,3 +200,211 @@ good-kept es us fs more names i e il le same h =
     (k and nth _ 1 h and c and nth _ 3 h and nth _ 4 h and rw s (nth _ 5 h)
     and of-le (e .negation) (length us) (omega (arith, le-of (e .negation) (length es) (nth _ 6 h)))
     and fields-kept fs more names i e (nth _ 7 h) and nth _ 8 h and none)
+
+pub good-same : (es us : List Entry) (fs : List Field) (names i : ℕ) (e : Entry) → i ≤ length es → length es ≤ length us
+    → ((j : ℕ) → j < length es → spreadAt us j ≡ spreadAt es j) → T (entryGood es fs names i e) → T (entryGood us fs names i e)
+good-same es us fs names i e il le same h = rw append-nil at (good-kept es us fs [] names i e il le same h)
+
+pub fields-more-good : (es : List Entry) (fs more : List Field) (names : ℕ) → EntriesGood es fs names → EntriesGood es (fs ++ more) names
+fields-more-good es fs more names g i lt = good-kept es es fs more names i (entryAt es i) (omega arith) (omega arith) (λ j l. refl) (g i lt)
+
+-- an entry appended
+pub more-length : (es : List Entry) (e : Entry) → length (es ++ (e ∷ [])) ≡ length es + 1
+more-length es e = length-append es (e ∷ [])
+
+pub more-old : (es us : List Entry) (i : ℕ) → i < length es → entryAt (es ++ us) i ≡ entryAt es i
+more-old es us i h = List·getD-append es us noEntry i h
+
+pub more-last : (es : List Entry) (e : Entry) → entryAt (es ++ (e ∷ [])) (length es) ≡ e
+more-last es e = getD-append-seam es e [] noEntry
+
+pub append-kept : (es us : List Entry) → EntriesKept es (es ++ us)
+append-kept es us = record { longer = simp length-append (omega arith); kept = λ i lt. rw more-old (keeps-refl (entryAt es i)) }
+
+pub append-good : (es : List Entry) (fs : List Field) (names : ℕ) → EntriesGood es fs names → (e : Entry)
+    → T (entryGood (es ++ (e ∷ [])) fs names (length es) e) → EntriesGood (es ++ (e ∷ [])) fs names
+append-good es fs names g e h i lt =
+    let n = more-length es e in
+    ⊎-elim
+    (λ (l : i < length es).
+    rw (more-old es (e ∷ []) i l)
+    (good-same es (es ++ (e ∷ [])) fs names i (entryAt es i) (omega arith) (omega arith) (λ j k. ap (λ (d : Entry). d .spread) (more-old es (e ∷ []) j k)) (g i l)))
+    (λ (l : length es ≤ i). let q : i ≡ length es = omega arith in rw (q, more-last es e) h)
+    (lt-or-ge i (length es))
+
+-- an entry changed
+module _ (f : Entry → Entry) (es : List Entry) (n : ℕ) where
+  pub changed-length : length (changed f es n) ≡ length es
+  unfolding changed
+  changed-length = length-set es n (f (entryAt es n))
+
+  pub changed-at : n < length es → entryAt (changed f es n) n ≡ f (entryAt es n)
+  unfolding changed
+  changed-at h = getD-set-same es n (f (entryAt es n)) noEntry h
+
+  pub changed-other : (i : ℕ) → (i ≡ n → ⊥) → entryAt (changed f es n) i ≡ entryAt es i
+  unfolding changed
+  changed-other i ne = getD-set-other es n i (f (entryAt es n)) noEntry ne
+
+  module _ (h : n < length es) (k : Keeps (entryAt es n) (f (entryAt es n))) where
+    changed-keeps : (i : ℕ) → Keeps (entryAt es i) (entryAt (changed f es n) i)
+    changed-keeps i =
+        ⊎-elim
+        (λ (e : i ≡ n). rw (e, changed-at h) k)
+        (λ (ne : i ≡ n → ⊥). rw (changed-other i ne) (keeps-refl (entryAt es i)))
+        (same-or-not i n)
+
+    pub changed-kept : EntriesKept es (changed f es n)
+    changed-kept = record { longer = omega (arith, changed-length); kept = λ i lt. changed-keeps i }
+
+    pub changed-good : (fs : List Field) (names : ℕ) → EntriesGood es fs names → T (entryGood es fs names n (f (entryAt es n))) → EntriesGood (changed f es n) fs names
+    changed-good fs names g e i lt =
+        let m = changed-length in
+        let to : (d : Entry) → T (entryGood es fs names i d) → T (entryGood (changed f es n) fs names i d) =
+        λ d. good-same es (changed f es n) fs names i d (omega arith) (omega arith) (λ j l. changed-keeps j .spread) in
+        ⊎-elim
+        (λ (q : i ≡ n). rw (q, changed-at h) (rw q at (to (f (entryAt es n)) (rw q e))))
+        (λ (ne : i ≡ n → ⊥). rw (changed-other i ne) (to (entryAt es i) (g i (omega arith))))
+        (same-or-not i n)
+
+-- opens the tests of an entry
+parts : Unit {0}
+unfolding entryGood kindKnown primitiveKnown componentsBelow unusedZero flagsKnown spreadIs negationKnown fieldsRight freeFits oneComponent twoComponents hasDynamicType hasDynamic is fieldsOf
+parts = tt
+
+-- a cached number set
+negation-keeps : (c : ℕ) (e : Entry) → Keeps e (withNegation c e)
+negation-keeps c e = record { kind = refl; x = λ no-variable. refl; y = refl; z = refl; flags = refl; spread = refl }
+
+pub negation-kept : (es : List Entry) (n c : ℕ) → n < length es → EntriesKept es (changed (withNegation c) es n)
+negation-kept es n c h = changed-kept (withNegation c) es n h (negation-keeps c (entryAt es n))
+
+pub negation-good : (es : List Entry) (fs : List Field) (names n k : ℕ) → EntriesGood es fs names → n < length es → k < length es → EntriesGood (changed (withNegation (suc k)) es n) fs names
+unfolding parts
+negation-good es fs names n k g h l =
+    let r = g n h in
+    changed-good (withNegation (suc k)) es n h (negation-keeps (suc k) (entryAt es n)) fs names g
+    (all-passed _ (nth _ 0 r and nth _ 1 r and nth _ 2 r and nth _ 3 r and nth _ 4 r and nth _ 5 r and of-le (suc k) (length es) l and nth _ 7 r and nth _ 8 r and none))
+
+-- a mark set
+mark-keeps : (e : Entry) → Keeps e (withMark e)
+mark-keeps e = record { kind = refl; x = λ no-variable. refl; y = refl; z = refl; flags = omega arith; spread = refl }
+
+pub mark-kept : (es : List Entry) (n : ℕ) → n < length es → EntriesKept es (changed withMark es n)
+mark-kept es n h = changed-kept withMark es n h (mark-keeps (entryAt es n))
+
+marked-most : (attr : Bool) (flags : ℕ) → T (leb flags (cond attr 7 1)) → T (leb (flags - flags % 2 + 1) (cond attr 7 1))
+marked-most true flags h = of-le (flags - flags % 2 + 1) 7 (omega (arith, le-of flags 7 h))
+marked-most false flags h = of-le (flags - flags % 2 + 1) 1 (omega (arith, le-of flags 1 h))
+
+pub mark-good : (es : List Entry) (fs : List Field) (names n : ℕ) → EntriesGood es fs names → n < length es → EntriesGood (changed withMark es n) fs names
+unfolding parts
+mark-good es fs names n g h =
+    let e : Entry = entryAt es n in
+    let r = g n h in
+    let q : (e .flags - e .flags % 2 + 1) / 4 ≡ e .flags / 4 = quarter-same (e .flags - e .flags % 2 + 1) (e .flags) (mark-keeps e .flags) in
+    changed-good withMark es n h (mark-keeps e) fs names g
+    (all-passed _
+    (nth _ 0 r and nth _ 1 r and rw q (nth _ 2 r) and rw q (nth _ 3 r) and marked-most (is attrset e) (e .flags) (nth _ 4 r)
+    and nth _ 5 r and nth _ 6 r and nth _ 7 r and nth _ 8 r and none))
+
+-- a variable's level set
+level-keeps : (l : ℕ) (e : Entry) → e .kind ≡ variable → Keeps e (withX l e)
+level-keeps l e v = record { kind = refl; x = λ no-variable. absurd (no-variable v); y = refl; z = refl; flags = refl; spread = refl }
+
+level-entry : (es : List Entry) (fs : List Field) (names i l : ℕ) (e : Entry) → e .kind ≡ variable → l < wordEnd → T (entryGood es fs names i e) → T (entryGood es fs names i (withX l e))
+unfolding parts spreadOf
+level-entry es fs names i l e q w r =
+    let s : e .spread ≡ 1 = eq-of (e .spread) 1 (rw q at (nth _ 5 r)) in
+    let u : T (allOf (isZero (e .y) ∷ isZero (e .z) ∷ true ∷ [])) = rw q at (nth _ 3 r) in
+    all-passed _
+    (rw q tt and rw q tt and all-passed _ (rw q tt and rw q tt and rw q tt and none)
+    and all-passed _ (rw q (nth _ 0 u) and rw q (nth _ 1 u) and rw q tt and none)
+    and nth _ 4 r and rw (q, s) tt and nth _ 6 r and rw q tt and rw q (both (ltb l wordEnd) true (of-lt l wordEnd w) tt) and none)
+
+is-variable : (es : List Entry) (n : ℕ) → T (isAt es variable n) → entryAt es n .kind ≡ variable
+unfolding isAt is
+is-variable es n v = eq-of (entryAt es n .kind) variable v
+
+pub level-kept : (es : List Entry) (n l : ℕ) → n < length es → T (isAt es variable n) → EntriesKept es (changed (withX l) es n)
+level-kept es n l h v = changed-kept (withX l) es n h (level-keeps l (entryAt es n) (is-variable es n v))
+
+pub level-good : (es : List Entry) (fs : List Field) (names n l : ℕ) → EntriesGood es fs names → n < length es → T (isAt es variable n) → l < wordEnd
+    → EntriesGood (changed (withX l) es n) fs names
+level-good es fs names n l g h v w =
+    let q = is-variable es n v in
+    changed-good (withX l) es n h (level-keeps l (entryAt es n) q) fs names g (level-entry es fs names n l (entryAt es n) q w (g n h))
+
+-- a new entry of each kind
+pub put-kept : (es : List Entry) (kind x y z flags : ℕ) → EntriesKept es (putEntry es kind x y z flags .after)
+unfolding putEntry
+put-kept es kind x y z flags = append-kept es (freshEntry es kind x y z flags ∷ [])
+
+pub new-kept : (es : List Entry) (kind x y : ℕ) → EntriesKept es (newEntry es kind x y .after)
+unfolding newEntry
+new-kept es kind x y = put-kept es kind x y 0 0
+
+-- the spread that it is given stays that of its components
+fresh-spread : (es us : List Entry) (kind x y z flags : ℕ) → (attrset < kind → x < length es) → (neg < kind → y < length es) → T (spreadIs (es ++ us) (freshEntry es kind x y z flags))
+unfolding spreadIs
+fresh-spread es us kind x y z flags f g =
+    of-eq (spreadOf es kind x y) (spreadOf (es ++ us) kind x y) (sym (spread-same es (es ++ us) kind x y
+    (λ l. ap (λ (d : Entry). d .spread) (more-old es us x (f l)))
+    (λ l. ap (λ (d : Entry). d .spread) (more-old es us y (g l)))))
+
+-- what is left of them where there are no fields, no dynamic type and no flags
+plain : (p a b last : Bool) → T p → T a → T b → T last → T (allOf (true ∷ p ∷ allOf (a ∷ b ∷ true ∷ []) ∷ allOf (true ∷ true ∷ true ∷ []) ∷ true ∷ true ∷ last ∷ []))
+plain p a b last h k l m =
+    all-passed _ (tt and h and all-passed _ (k and l and tt and none) and all-passed _ (tt and tt and tt and none) and tt and tt and m and none)
+
+module _ (es : List Entry) (fs : List Field) (names : ℕ) (g : EntriesGood es fs names) where
+  -- the tests that are left for it
+  put-good : (kind x y z flags : ℕ) → (attrset < kind → x < length es) → (neg < kind → y < length es)
+      → (let e = freshEntry es kind x y z flags in
+      T (allOf (kindKnown e ∷ primitiveKnown e ∷ componentsBelow (length es) e ∷ unusedZero e ∷ flagsKnown e ∷ fieldsRight fs names (length es) e ∷ freeFits e ∷ [])))
+      → EntriesGood (putEntry es kind x y z flags .after) fs names
+  unfolding entryGood negationKnown putEntry
+  put-good kind x y z flags f h r =
+      let e : Entry = freshEntry es kind x y z flags in
+      append-good es fs names g e
+      (all-passed _
+      (nth _ 0 r and nth _ 1 r and nth _ 2 r and nth _ 3 r and nth _ 4 r and fresh-spread es (e ∷ []) kind x y z flags f h
+      and of-le 0 (length (es ++ (e ∷ []))) (omega arith) and nth _ 5 r and nth _ 6 r and none))
+
+  pub variable-good : (x : ℕ) → x < wordEnd → EntriesGood (newEntry es variable x 0 .after) fs names
+  unfolding parts newEntry
+  variable-good x h =
+      put-good variable x 0 0 0 (λ l. absurd (omega arith)) (λ l. absurd (omega arith)) (plain true true true (ltb x wordEnd && true) tt tt tt (both (ltb x wordEnd) true (of-lt x wordEnd h) tt))
+
+  pub primitive-good : (x : ℕ) → x ≤ number → EntriesGood (newEntry es primitive x 0 .after) fs names
+  unfolding parts newEntry
+  primitive-good x h = put-good primitive x 0 0 0 (λ l. absurd (omega arith)) (λ l. absurd (omega arith)) (plain (leb x number) true true true (of-le x number h) tt tt tt)
+
+  pub list-good : (x : ℕ) → x < length es → EntriesGood (newEntry es list x 0 .after) fs names
+  unfolding parts newEntry
+  list-good x h = put-good list x 0 0 0 (λ l. h) (λ l. absurd (omega arith)) (plain true (ltb x (length es)) true true tt (of-lt x (length es) h) tt tt)
+
+  pub named-good : (x y : ℕ) → x < length es → y < wordEnd → EntriesGood (newEntry es named x y .after) fs names
+  unfolding parts newEntry
+  named-good x y h k =
+      put-good named x y 0 0 (λ l. h) (λ l. absurd (omega arith)) (plain true (ltb x (length es)) true (ltb y wordEnd) tt (of-lt x (length es) h) tt (of-lt y wordEnd k))
+
+  pub neg-good : (x : ℕ) → x < length es → EntriesGood (newEntry es neg x 0 .after) fs names
+  unfolding parts newEntry
+  neg-good x h = put-good neg x 0 0 0 (λ l. h) (λ l. absurd (omega arith)) (plain true (ltb x (length es)) true true tt (of-lt x (length es) h) tt tt)
+
+  module _ (x y : ℕ) (h : x < length es) (k : y < length es) where
+    two : T (allOf (true ∷ true ∷ allOf (ltb x (length es) ∷ ltb y (length es) ∷ true ∷ []) ∷ allOf (true ∷ true ∷ true ∷ []) ∷ true ∷ true ∷ true ∷ []))
+    two = plain true (ltb x (length es)) (ltb y (length es)) true tt (of-lt x (length es) h) (of-lt y (length es) k) tt
+
+    pub lambda-good : EntriesGood (newEntry es lambda x y .after) fs names
+    unfolding parts newEntry
+    lambda-good = put-good lambda x y 0 0 (λ l. h) (λ l. k) two
+
+    pub inter-good : EntriesGood (newEntry es inter x y .after) fs names
+    unfolding parts newEntry
+    inter-good = put-good inter x y 0 0 (λ l. h) (λ l. k) two
+
+    pub union-good : EntriesGood (newEntry es union x y .after) fs names
+    unfolding parts newEntry
+    union-good = put-good union x y 0 0 (λ l. h) (λ l. k) two
