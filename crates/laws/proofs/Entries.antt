@@ -1,19 +1,19 @@
 -- Entry lists: what stays right as they grow or an entry changes, and each new entry is good. Assumes nothing.
-use Prim.Native.Nat.{ℕ, zero, suc, _+_, _*_, _-_, _≤_, _<_, _/_, _%_}
+use Prim.Native.Nat.{ℕ, suc, _+_, _*_, _-_, _≤_, _<_, _/_, _%_}
 use native.Mathlib.Omega.{arith}
 use native.Mathlib.Nat.{div-div-eq-div-mul}
 use mathlib.Core.Path.{_≡_, refl, sym, ap, _∙_}
 use mathlib.Core.List.{List, [], _∷_, _++_, append-nil}
 use mathlib.Core.Bool.{Bool, true, false, cond, _&&_, _||_}
 use mathlib.Core.Logic.{_⊎_, inl, inr, ⊎-elim}
-use lib.ListN.{length, getD, set, take, drop, length-append, length-set, length-drop, List·getD-append}
+use lib.ListN.{length, take, drop, length-append, length-set, length-drop, List·getD-append}
 use lib.Seq.{getD-append-seam, getD-set-same, getD-set-other, drop-append-le, take-append-le, drop-append-seam, take-length}
 use lib.Dec.{T, eqb, leb, ltb, eqb·suc-zero}
-use borrow.Author.Tests.{ltb-true, ltb-false, leb-true, leb-false, le-leb, lt-leb, eqb-true}
+use borrow.Author.Tests.{ltb-true, ltb-false, leb-false}
 use Rattle.model.specs.Lists.{_⇒_, isZero, allOf, all}
-use Rattle.model.specs.Format.{wordEnd, unbroken, mismatched, fieldMissing, variable, primitive, list, lambda, attrset, named, neg, inter, union, number}
+use Rattle.model.specs.Format.{wordEnd, unbroken, mismatched, fieldMissing, variable, primitive, list, lambda, attrset, named, neg, inter, union, number, openFlag}
 use Rattle.model.specs.Table.{Entry, Field, Bound, Pair, _⊑_, Break, Store, noEntry, entryAt, is, isAt, isOpen, hasDynamic}
-use Rattle.model.specs.Making.{spreadAt, spreadOf, Making, freshEntry, putEntry, newEntry, changed, withNegation, withMark}
+use Rattle.model.specs.Making.{spreadAt, spreadOf, freshEntry, putEntry, newEntry, changed, withNegation, withMark}
 use Rattle.model.specs.Shapes.{fieldsOf}
 use Rattle.model.specs.Formed.{isEntry, pairRight, breakRight, oneComponent, twoComponents, hasDynamicType, kindKnown, primitiveKnown, componentsBelow, unusedZero, flagsKnown, negationKnown, namesAscend, fieldsRight, fieldRight, boundRight}
 use Rattle.model.specs.Told.{bit}
@@ -22,7 +22,7 @@ use Rattle.model.specs.declared.Dynamic.{Dynamic}
 use Rattle.model.specs.declared.Dynamic.the-variants.{Absent, Present}
 use Rattle.laws.specs.Good.{freeFits, spreadIs, entryGood, EntriesGood}
 use Rattle.laws.specs.Growth.{Keeps, EntriesKept}
-use Rattle.laws.proofs.Tests.{true-of, both, first, second, when-passed, if-passed, nth, none, _and_, all-passed, all-to, le-of, of-le, lt-of, of-lt, eq-of, of-eq}
+use Rattle.laws.proofs.Tests.{both, first, second, when-passed, if-passed, nth, none, _and_, all-passed, all-to, le-of, of-le, lt-of, of-lt, eq-of, of-eq}
 
 -- two numbers compared
 pub lt-or-ge : (a b : ℕ) → (a < b) ⊎ (b ≤ a)
@@ -344,6 +344,14 @@ pub new-kept : (es : List Entry) (kind x y : ℕ) → EntriesKept es (newEntry e
 unfolding newEntry
 new-kept es kind x y = put-kept es kind x y 0 0
 
+pub new-number : (es : List Entry) (kind x y : ℕ) → newEntry es kind x y .number ≡ length es
+unfolding newEntry putEntry
+new-number es kind x y = refl
+
+pub new-length : (es : List Entry) (kind x y : ℕ) → length (newEntry es kind x y .after) ≡ length es + 1
+unfolding newEntry putEntry
+new-length es kind x y = more-length es (freshEntry es kind x y 0 0)
+
 -- the spread that it is given stays that of its components
 fresh-spread : (es us : List Entry) (kind x y z flags : ℕ) → (attrset < kind → x < length es) → (neg < kind → y < length es) → T (spreadIs (es ++ us) (freshEntry es kind x y z flags))
 unfolding spreadIs
@@ -408,3 +416,43 @@ module _ (es : List Entry) (fs : List Field) (names : ℕ) (g : EntriesGood es f
     pub union-good : EntriesGood (newEntry es union x y .after) fs names
     unfolding parts newEntry
     union-good = put-good union x y 0 0 (λ l. h) (λ l. k) two
+
+-- a new attrset: its flags, its first field and its fields
+dynamic-tests : (es : List Entry) (wide : Bool) (d : Dynamic) → T (dynamicKnown es d)
+    → (let flags = openFlag * bit wide + dynamicBit d in
+    let dyn = eqb (flags / 4 % 2) 1 in
+    T (allOf ((dyn ⇒ ltb (dynamicType d) (length es)) ∷ (dyn || isZero (dynamicType d)) ∷ leb flags 7 ∷ [])))
+unfolding dynamicKnown dynamicType dynamicBit isEntry
+dynamic-tests es true Absent h = all-passed _ (tt and tt and tt and none)
+dynamic-tests es false Absent h = all-passed _ (tt and tt and tt and none)
+dynamic-tests es true (Present n) h = all-passed _ (h and tt and tt and none)
+dynamic-tests es false (Present n) h = all-passed _ (h and tt and tt and none)
+
+first-zero : (b : Bool) (m : ℕ) → T (b ⇒ isZero (cond b 0 m))
+first-zero true m = tt
+first-zero false m = tt
+
+first-low : (b : Bool) (m : ℕ) → cond b 0 m ≤ m
+first-low true m = omega arith
+first-low false m = omega arith
+
+fields-new : (fs new : List Field) → take (length new) (drop (cond (isZero (length new)) 0 (length fs)) (fs ++ new)) ≡ new
+fields-new fs [] = refl
+fields-new fs (f ∷ l) = rw (eqb·suc-zero (length l), drop-append-seam fs (f ∷ l), take-length (f ∷ l))
+
+pub attrset-kept : (es : List Entry) (fs new : List Field) (wide : Bool) (d : Dynamic) → EntriesKept es (newAttrset es fs new wide d .after)
+unfolding newAttrset
+attrset-kept es fs new wide d = put-kept es attrset (cond (isZero (length new)) 0 (length fs)) (length new) (dynamicType d) (openFlag * bit wide + dynamicBit d)
+
+pub attrset-good : (es : List Entry) (fs : List Field) (names : ℕ) → EntriesGood es fs names → (new : List Field) (wide : Bool) (d : Dynamic)
+    → T (namesAscend names new) → T (all (λ f. isEntry es (f .entry)) new) → T (dynamicKnown es d) → EntriesGood (newAttrset es fs new wide d .after) (fs ++ new) names
+unfolding parts newAttrset isEntry
+attrset-good es fs names g new wide d a n k =
+    let x : ℕ = cond (isZero (length new)) 0 (length fs) in
+    let t = dynamic-tests es wide d k in
+    let le : x + length new ≤ length (fs ++ new) = simp length-append (omega (arith, first-low (isZero (length new)) (length fs))) in
+    put-good es (fs ++ new) names (fields-more-good es fs new names g) attrset x (length new) (dynamicType d) (openFlag * bit wide + dynamicBit d)
+    (λ l. absurd (omega arith)) (λ l. absurd (omega arith))
+    (all-passed _
+    (tt and tt and all-passed _ (tt and tt and nth _ 0 t and none) and all-passed _ (tt and nth _ 1 t and first-zero (isZero (length new)) (length fs) and none) and nth _ 2 t
+    and rw fields-new (all-passed _ (of-le (x + length new) (length (fs ++ new)) le and a and n and none)) and tt and none))
