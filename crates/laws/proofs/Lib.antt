@@ -1,2 +1,4 @@
 pub mod Tests
 pub mod Entries
+pub mod Undone
+pub mod Negation
