@@ -96,3 +96,88 @@ module _ (fs : List Field) (names : ℕ) where
         undo = λ k lk. undone-cached k us n (suc (m .number)) hn z (omega arith) ∙ g .undo k lk;
         least = omega (arith, g .least);
       }
+
+-- which of the cases an entry is in
+abbrev Fits : Entry → Negating → Type 0
+Fits e (cached c) = e .negation ≡ suc c
+Fits e (twice x) = (e .kind ≡ neg) × (x ≡ e .x)
+Fits e (spreadOver kind a b) = (e .negation ≡ 0) × (neg < e .kind) × ((kind ≡ inter) ⊎ (kind ≡ union)) × (a ≡ e .x) × (b ≡ e .y)
+Fits e fresh = e .negation ≡ 0
+
+fits-uncached : (e : Entry) → e .negation ≡ 0 → (b₆ b₇ b₈ : Bool) → eqb (e .kind) inter ≡ b₇ → eqb (e .kind) union ≡ b₈ → eqb (e .kind) neg ≡ b₆
+    → Fits e (cond b₆ (twice (e .x)) (cond b₇ (spreadOver union (e .x) (e .y)) (cond b₈ (spreadOver inter (e .x) (e .y)) fresh)))
+fits-uncached e z true b₇ b₈ h₇ h₈ h₆ = (eqb-true (e .kind) neg h₆, refl)
+fits-uncached e z false true b₈ h₇ h₈ h₆ = (z, omega (arith, eqb-true (e .kind) inter h₇), inr refl, refl, refl)
+fits-uncached e z false false true h₇ h₈ h₆ = (z, omega (arith, eqb-true (e .kind) union h₈), inl refl, refl, refl)
+fits-uncached e z false false false h₇ h₈ h₆ = z
+
+fits-by : (e : Entry) (c : ℕ) → e .negation ≡ c → Fits e (negatingBy c e)
+unfolding negatingBy negatingUncached is
+fits-by e zero z = fits-uncached e z (eqb (e .kind) neg) (eqb (e .kind) inter) (eqb (e .kind) union) refl refl refl
+fits-by e (suc c) z = z
+
+fits : (e : Entry) → Fits e (negating e)
+unfolding negating
+fits e = fits-by e (e .negation) refl
+
+-- the negation of b is made after that of a, and then an entry of both
+abbrev second : (List Entry → ℕ → Making) → List Entry → ℕ → ℕ → Making
+second again es a b = again (again es a .after) b
+
+abbrev over : (List Entry → ℕ → Making) → List Entry → ℕ → ℕ → ℕ → Making
+over again es kind a b = newEntry (second again es a b .after) kind (again es a .number) (second again es a b .number)
+
+two-good : (es : List Entry) (fs : List Field) (names kind x y : ℕ) → EntriesGood es fs names → x < length es → y < length es → (kind ≡ inter) ⊎ (kind ≡ union)
+    → EntriesGood (newEntry es kind x y .after) fs names
+two-good es fs names kind x y g h k =
+    ⊎-elim (λ (q : kind ≡ inter). rw q (inter-good es fs names g x y h k)) (λ (q : kind ≡ union). rw q (union-good es fs names g x y h k))
+
+-- making by cases, if making the parts does
+module _ (fs : List Field) (names : ℕ) (again : List Entry → ℕ → Making) (es : List Entry) (n : ℕ) (g : EntriesGood es fs names) (h : n < length es)
+    (parts : (us : List Entry) (i : ℕ) → EntriesGood us fs names → i < n → i < length us → Grown us fs names i (again us i)) where
+  module _ (kind a b : ℕ) (e : Fits (entryAt es n) (spreadOver kind a b)) where
+    below-one : a < n
+    below-one = omega (arith, x-known es fs names g n h (omega arith))
+
+    below-two : b < n
+    below-two = omega (arith, y-known es fs names g n h (omega arith))
+
+    grown-one : Grown es fs names a (again es a)
+    grown-one = parts es a g below-one (omega (arith, below-one))
+
+    grown-two : Grown (again es a .after) fs names b (second again es a b)
+    grown-two = parts (again es a .after) b (grown-one .good) below-two (omega (arith, below-two, grown-one .least))
+
+    grown-parts : Grown es fs names (max a b) (second again es a b)
+    grown-parts = grown-then fs names es (max a b) a b (again es a) (second again es a b) (omega arith) (omega arith) grown-one grown-two
+
+    grown-over : Grown es fs names (max a b) (over again es kind a b)
+    grown-over =
+        grown-then fs names es (max a b) (max a b) 0 (second again es a b) (over again es kind a b) (omega arith) (omega arith) grown-parts
+        (grown-new fs names (second again es a b .after) 0 kind (again es a .number) (second again es a b .number)
+        (two-good (second again es a b .after) fs names kind (again es a .number) (second again es a b .number) (grown-two .good)
+        (omega (arith, grown-one .number, grown-two .least)) (grown-two .number) (e .2)))
+
+    uncached : entryAt (over again es kind a b .after) n .negation ≡ 0
+    uncached = ap (λ (d : Entry). d .negation) (grown-over .above n (omega (arith, below-one, below-two)) h) ∙ e .0
+
+  grown-by : (d : Negating) → Fits (entryAt es n) d → Grown es fs names n (negBy again es n d)
+  unfolding negBy
+  grown-by (cached c) e = grown-none fs names es n c g (omega (arith, negation-known es fs names g n h))
+  grown-by (twice x) e = grown-none fs names es n x g (omega (arith, x-known es fs names g n h (omega arith)))
+  grown-by (spreadOver kind a b) e =
+      grown-cached fs names es n (max a b) (over again es kind a b) (omega (arith, below-one kind a b e, below-two kind a b e)) (grown-over kind a b e) h (uncached kind a b e)
+      (omega (arith, grown-parts kind a b e .least, new-number (second again es a b .after) kind (again es a .number) (second again es a b .number)))
+  grown-by fresh e =
+      grown-cached fs names es n n (newEntry es neg n 0) (omega arith) (grown-new fs names es n neg n 0 (neg-good es fs names g n h)) h
+      (ap (λ (d : Entry). d .negation) (new-old es neg n 0 n h) ∙ e) (omega (arith, new-number es neg n 0))
+
+grown-within : (fs : List Field) (names rounds : ℕ) (es : List Entry) (n : ℕ) → EntriesGood es fs names → n < rounds → n < length es → Grown es fs names n (negWithin rounds es n)
+unfolding negWithin
+grown-within fs names zero es n g r h = absurd (omega arith)
+grown-within fs names (suc rounds) es n g r h =
+    grown-by fs names (negWithin rounds) es n g h (λ us i gu ni lt. grown-within fs names rounds us i gu (omega arith) lt) (negating (entryAt es n)) (fits (entryAt es n))
+
+pub neg-grown : (es : List Entry) (fs : List Field) (names n : ℕ) → EntriesGood es fs names → n < length es → Grown es fs names n (makeNeg es n)
+unfolding makeNeg
+neg-grown es fs names n g h = grown-within fs names (suc n) es n g (omega arith) h
