@@ -11,11 +11,13 @@ use borrow.Author.Tests.{eqb-true, lt-leb}
 use Rattle.model.specs.Format.{neg, inter, union}
 use Rattle.model.specs.Table.{Entry, Field, entryAt, is}
 use Rattle.model.specs.Making.{spreadAt, spreadOf, Making, freshEntry, putEntry, newEntry, changed, withNegation, cachedAs}
-use Rattle.model.specs.Making.{Negating, cached, twice, spreadOver, fresh, negatingUncached, negatingBy, negating, negBy, negWithin, makeNeg}
+use Rattle.model.specs.Making.{Negating, cached, twice, spreadOver, fresh, negatingUncached, negatingBy, negating, negBy, negWithin, makeNeg, undone}
+use Rattle.model.specs.Shapes.{unionMember}
+use Rattle.model.specs.Rules.{target}
 use Rattle.laws.specs.Good.{EntriesGood, Shallow}
 use Rattle.laws.specs.Growth.{EntriesKept}
 use Rattle.laws.proofs.Entries.{lt-or-ge, kept-refl, kept-trans, more-old, changed-length, changed-other, changed-word, negation-kept, negation-good, negation-known, spread-known, x-known, y-known, new-kept, new-number, new-length, neg-good, inter-good, union-good}
-use Rattle.laws.proofs.Undone.{undone-append, undone-cached, Undoable, undoable-refl, undoable-trans}
+use Rattle.laws.proofs.Undone.{undone-append, undone-cached, Undoable, undoable-refl, undoable-trans, undo-exact}
 
 -- What a making m on the entries es leaves, of which none above n is changed.
 pub record Grown (es : List Entry) (fs : List Field) (names n : ℕ) (m : Making) : Type 0 where
@@ -181,3 +183,30 @@ grown-within fs names (suc rounds) es n g r h =
 pub neg-grown : (es : List Entry) (fs : List Field) (names n : ℕ) → EntriesGood es fs names → n < length es → Grown es fs names n (makeNeg es n)
 unfolding makeNeg
 neg-grown es fs names n g h = grown-within fs names (suc n) es n g (omega arith) h
+
+-- the rule's mix: Neg(d), and the union of sup and that
+pub target-grown : (es : List Entry) (fs : List Field) (names sup d : ℕ) → EntriesGood es fs names → sup < length es → d < length es → Grown es fs names d (target sup (makeNeg es d))
+unfolding target
+target-grown es fs names sup d g s h = by (unionMember (makeNeg es d .after) (makeNeg es d .number) sup)
+  where
+    m : Grown es fs names d (makeNeg es d)
+    m = neg-grown es fs names d g h
+
+    up : sup < length (makeNeg es d .after)
+    up = omega (arith, m .least)
+
+    by : (t : Bool) → Grown es fs names d (cond t (record { number = sup; after = makeNeg es d .after }) (newEntry (makeNeg es d .after) union sup (makeNeg es d .number)))
+    by true = grown-then fs names es d d d (makeNeg es d) (record { number = sup; after = makeNeg es d .after }) (omega arith) (omega arith) m (grown-none fs names (makeNeg es d .after) d sup (m .good) up)
+    by false =
+        grown-then fs names es d d d (makeNeg es d) (newEntry (makeNeg es d .after) union sup (makeNeg es d .number)) (omega arith) (omega arith) m
+        (grown-new fs names (makeNeg es d .after) d union sup (makeNeg es d .number) (union-good (makeNeg es d .after) fs names (m .good) sup (makeNeg es d .number) up (m .number)))
+
+-- what was made is taken off again exactly
+pub undo-grown : (es : List Entry) (fs : List Field) (names n : ℕ) (m : Making) → EntriesGood es fs names → Grown es fs names n m → undone (length es) (m .after) ≡ es
+undo-grown es fs names n m g w = undo-exact es (m .after) (negation-known es fs names g) (w .undo)
+
+pub undo-neg : (es : List Entry) (fs : List Field) (names n : ℕ) → EntriesGood es fs names → n < length es → undone (length es) (makeNeg es n .after) ≡ es
+undo-neg es fs names n g h = undo-grown es fs names n (makeNeg es n) g (neg-grown es fs names n g h)
+
+pub undo-target : (es : List Entry) (fs : List Field) (names sup d : ℕ) → EntriesGood es fs names → sup < length es → d < length es → undone (length es) (target sup (makeNeg es d) .after) ≡ es
+undo-target es fs names sup d g s h = undo-grown es fs names d (target sup (makeNeg es d)) g (target-grown es fs names sup d g s h)
