@@ -128,4 +128,4 @@ missing-right s p n h lt = both (pairRight (s .entries) p) (ltb n (s .names)) h 
 
 pub fill-entries : (f : Failure) (s : Store) → fillBreak f s .entries ≡ s .entries
 unfolding fillBreak withBroken
-fill-entries f s = by-test (λ u. u .entries ≡ s .entries) (isBroken s) (λ b. refl) (λ b. refl)
+fill-entries f s = by-test (λ (u : Store). u .entries ≡ s .entries) (isBroken s) (λ b. refl) (λ b. refl)
