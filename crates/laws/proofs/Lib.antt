@@ -1,5 +1,6 @@
 pub mod Tests
 pub mod Entries
+pub mod Negation
 pub mod Growing
 pub mod Stores
 pub mod Arms

@@ -1,7 +1,7 @@
 -- A rule leaves a good store good, only appends to it, and its consequences are entries. Assumes nothing.
 use Prim.Native.Nat.{ℕ, zero, suc, _+_, _≤_, _<_}
 use native.Mathlib.Omega.{arith}
-use mathlib.Core.Path.{_≡_, refl, sym, _∙_}
+use mathlib.Core.Path.{_≡_, refl, ap, _∙_}
 use mathlib.Core.List.{List, [], _∷_, _++_, map}
 use mathlib.Core.Option.{Option, none, some}
 use mathlib.Core.Bool.{Bool, true, false, not, cond, _&&_, _||_}
@@ -10,18 +10,20 @@ use lib.Dec.{T, eqb, ltb}
 use Rattle.instalments.specs.Machine.{Outcome, fails, goes}
 use Rattle.model.specs.Lists.{isZero, all}
 use Rattle.model.specs.Format.{variable, list, lambda, attrset, named, neg, inter, union, lower, upper}
-use Rattle.model.specs.Table.{Entry, Field, Bound, Pair, _⊑_, Store, entryAt, is, isAt, marked, isOpen, hasDynamic, withEntries}
-use Rattle.model.specs.Making.{Making, newEntry, putEntry, makeNeg, markEntry, boundsIn, addBound}
+use Rattle.model.specs.Table.{Entry, Field, Bound, Pair, _⊑_, Store, entryAt, is, isAt, marked, isOpen, hasDynamic, withBroken, withEntries, withVisited}
+use Rattle.model.specs.Making.{Making, freshEntry, newEntry, putEntry, makeNeg, markEntry, boundsIn, addBound}
 use Rattle.model.specs.Shapes.{fieldsOf, fieldNamed, functorIn, functorOf, disjoint, compatible, unionMember, disjointFromSup}
-use Rattle.model.specs.Formed.{isEntry, pairRight, oneComponent, twoComponents, hasDynamicType, componentsBelow, namesAscend, ascendFrom, fieldsRight, boundRight}
+use Rattle.model.specs.Formed.{isEntry, pairRight, breakRight, oneComponent, twoComponents, hasDynamicType, componentsBelow, namesAscend, ascendFrom, fieldsRight, boundRight}
 use Rattle.model.specs.Rules.{Effect, mismatch, missing, follow, Gathered, gathered, lacking, before, gatherOne, gather, dynamics, gatheredEffect, attrsets, followMade, target, isolate, chosen, leftInter, rightBoth, rightOne, rightOpen, rightKind, rightClosed, rightUnion, functorRule, underNegation}
-use Rattle.model.specs.Rules.{Arm, subNamed, supNamed, lambdas, lists, bothAttrsets, nothing, negs, underNeg, supInter, subUnion, subInter, supUnion, functor, noArm, armOf, byArm, concrete, passMark, subVariable, supVariable, pairRule, isVisited, visit, fillBreak, failing, outcomeOf, rule}
+use Rattle.model.specs.Rules.{Arm, subNamed, supNamed, lambdas, lists, bothAttrsets, nothing, negs, underNeg, supInter, subUnion, subInter, supUnion, functor, noArm, armOf, byArm, concrete, passMark, subVariable, supVariable, pairRule, isVisited, visit, breakOf, fillBreak, failing, outcomeOf, rule}
 use Rattle.model.specs.declared.Failure.{Failure}
 use Rattle.model.specs.declared.Failure.the-variants.{Mismatch, MissingField}
 use Rattle.laws.specs.Good.{entryGood, EntriesGood, Good}
 use Rattle.laws.specs.Growth.{EntriesKept, Appends}
 use Rattle.laws.proofs.Tests.{both, first, second, when-passed, nth, all-empty, all-to, lt-of, of-lt, eq-of, of-eq}
-use Rattle.laws.proofs.Entries.{kept-refl, kept-trans, pairs-more, Grown, neg-grown, lambda-good, union-good, new-kept, new-same}
+use Rattle.laws.proofs.Entries.{kept-refl, kept-trans, more-old, lambda-good, union-good, new-kept}
+use Rattle.laws.proofs.Growing.{appends-refl}
+use Rattle.laws.proofs.Negation.{neg-grown}
 use Rattle.laws.proofs.Stores.{by-test, Leads, leads-refl, leads-trans, entries-lead, visit-leads, add-leads, mark-leads, fill-leads, mismatch-right, missing-right, fill-entries}
 use Rattle.laws.proofs.Arms.{Fits, arm-fits}
 
@@ -178,7 +180,7 @@ module _ (s : Store) (good : Good s) where
   then-new m kind x y k g = record {
     good = g;
     kept = kept-trans (k .kept) (new-kept (m .after) kind x y);
-    same = λ i lt. new-same (m .after) kind x y i (omega (arith, k .kept .longer)) ∙ k .same i lt;
+    same = λ i lt. ap (λ (e : Entry). e .x) (more-old (m .after) (freshEntry (m .after) kind x y 0 0 ∷ []) i (omega (arith, k .kept .longer))) ∙ k .same i lt;
     number = simp length-append (omega arith);
   }
 
@@ -210,7 +212,7 @@ module _ (s : Store) (good : Good s) where
         let l : sup < length (m .after) = omega (arith, k .kept .longer) in
         by-test (Made s) (unionMember (m .after) (m .number) sup)
         (λ h. record { good = k .good; kept = k .kept; same = k .same; number = l })
-        (λ h. then-new m union sup (m .number) k (union-good (m .after) (s .fields) (s .names) sup (m .number) (k .good) l (k .number)))
+        (λ h. then-new m union sup (m .number) k (union-good (m .after) (s .fields) (s .names) (k .good) sup (m .number) l (k .number)))
 
     isolate-good : (c d : ℕ) → Known s c → Known s d → EffectGood s (isolate s c d sup)
     unfolding isolate
@@ -268,9 +270,9 @@ module _ (s : Store) (good : Good s) where
         let e = at s sup in
         let m = newEntry (s .entries) lambda (e .x) (e .y) in
         let start : Made s (record { number = sub; after = s .entries }) = record { good = good .entries; kept = kept-refl (s .entries); same = λ i lt. refl; number = lsub } in
-        let k : Made s m = then-new (record { number = sub; after = s .entries }) lambda (e .x) (e .y) start (lambda-good (s .entries) (s .fields) (s .names) (e .x) (e .y) (good .entries) lx ly) in
+        let k : Made s m = then-new (record { number = sub; after = s .entries }) lambda (e .x) (e .y) start (lambda-good (s .entries) (s .fields) (s .names) (good .entries) (e .x) (e .y) lx ly) in
         made-good (f .entry) (newEntry (m .after) lambda sub (m .number)) h
-        (then-new m lambda sub (m .number) k (lambda-good (m .after) (s .fields) (s .names) sub (m .number) (k .good) (omega (arith, k .kept .longer)) (k .number)))
+        (then-new m lambda sub (m .number) k (lambda-good (m .after) (s .fields) (s .names) (k .good) sub (m .number) (omega (arith, k .kept .longer)) (k .number)))
 
     arm-good : (arm : Arm) → Fits arm (at s sub .kind) (at s sup .kind) → EffectGood s (byArm s sub sup (at s sub) (at s sup) arm)
     unfolding byArm underNegation oneComponent twoComponents is
@@ -290,3 +292,77 @@ module _ (s : Store) (good : Good s) where
     arm-good supUnion h = right-good (at s sup .x) (at s sup .y) (x-of sup lsup (rw h tt)) (y-of sup lsup (rw h tt))
     arm-good functor h = functor-good (functorOf s (at s sub)) (functor-known sub lsub (h .0)) (x-of sup lsup (rw (h .1) tt)) (y-of sup lsup (rw (h .1) tt))
     arm-good noArm h = tt
+
+    pass-leads : Leads s (passMark sub sup s)
+    unfolding passMark
+    pass-leads = by-test (Leads s) (isAt (s .entries) variable sup && marked (at s sub)) (λ h. mark-leads s good sup lsup) (λ h. leads-refl good)
+
+-- a pair for each bound of a variable
+bound-pairs : (es : List Entry) (f : ℕ → Pair) → ((n : ℕ) → n < length es → T (pairRight es (f n)))
+    → (bs : List Bound) (v side : ℕ) → T (all (boundRight es) bs) → T (all (pairRight es) (map f (boundsIn bs v side)))
+unfolding boundsIn all boundRight isEntry
+bound-pairs es f right [] v side h = tt
+bound-pairs es f right (b ∷ bs) v side h =
+    let rest = bound-pairs es f right bs v side (second (boundRight es b) (all (boundRight es) bs) h) in
+    by-test (λ l. T (all (pairRight es) (map f l))) (eqb (b .variable) v && eqb (b .side) side)
+    (λ k. one-more es (f (b .bound)) (map f (boundsIn bs v side)) (right (b .bound) (lt-of (b .bound) (length es) (nth _ 3 (first (boundRight es b) (all (boundRight es) bs) h)))) rest)
+    (λ k. rest)
+
+module _ (s : Store) (good : Good s) (sub sup : ℕ) (lsub : Known s sub) (lsup : Known s sup) where
+  sub-good : T (isAt (s .entries) variable sub) → EffectGood s (subVariable s sub sup)
+  unfolding subVariable
+  sub-good h =
+      let u = addBound sub upper sup s in
+      let add : Leads s u = add-leads s good sub upper sup lsub h (omega arith) lsup in
+      let more = add .appends .grows .entries .longer in
+      let pass : Leads u (passMark sub sup u) = pass-leads u (add .good) sub sup (omega arith) (omega arith) in
+      let all-of = leads-trans add pass in
+      let v = passMark sub sup u in
+      (all-of,
+      bound-pairs (v .entries) (λ l. l ⊑ sup) (λ n lt. pair-of (v .entries) n sup lt (omega (arith, all-of .appends .grows .entries .longer))) (v .bounds) sub lower (all-of .good .bounds))
+
+  sup-good : T (isAt (s .entries) variable sup) → EffectGood s (supVariable s sub sup)
+  unfolding supVariable
+  sup-good h =
+      let u = addBound sup lower sub s in
+      let add : Leads s u = add-leads s good sup lower sub lsup h (omega arith) lsub in
+      (add,
+      bound-pairs (u .entries) (λ l. sub ⊑ l) (λ n lt. pair-of (u .entries) sub n (omega (arith, add .appends .grows .entries .longer)) lt) (u .bounds) sup upper (add .good .bounds))
+
+  pub pair-rule-good : EffectGood s (pairRule s sub sup)
+  unfolding pairRule concrete
+  pair-rule-good =
+      by-test (EffectGood s) (isAt (s .entries) variable sub) sub-good
+      (λ h.
+      by-test (EffectGood s) (isAt (s .entries) variable sup) sup-good
+      (λ k. arm-good s good sub sup lsub lsup (armOf (at s sub .kind) (at s sup .kind) (at s sub .x) (at s sup .x)) (arm-fits (at s sub .kind) (at s sup .kind) (at s sub .x) (at s sup .x))))
+
+-- A step's outcome. Where it fails, only the pair is visited, and the break words are filled if there was no break.
+abbrev pub GoodOutcome : Store → Pair → Outcome Store Pair Failure → Type 0
+GoodOutcome s p (goes u qs) = Good u × T (all (pairRight (u .entries)) qs) × Appends s u
+GoodOutcome s p (fails f u) = Good u × Appends s u × (u .entries ≡ s .entries) × (u ≡ fillBreak f (visit p s))
+
+module _ (s : Store) (p : Pair) (good : Good s) (lsub : p .sub < length (s .entries)) (lsup : p .sup < length (s .entries)) where
+  right : T (pairRight (s .entries) p)
+  right = pair-of (s .entries) (p .sub) (p .sup) lsub lsup
+
+  visited : Leads s (visit p s)
+  visited = visit-leads s good p right
+
+  failing-good : (f : Failure) → T (breakRight (withBroken (breakOf f) (visit p s))) → GoodOutcome s p (failing (visit p s) f)
+  unfolding failing visit withVisited
+  failing-good f h =
+      let l = leads-trans visited (fill-leads (visit p s) (visited .good) f h) in
+      (l .good, l .appends, fill-entries f (visit p s), refl)
+
+  outcome-good : (e : Effect) → EffectGood (visit p s) e → GoodOutcome s p (outcomeOf (visit p s) p e)
+  unfolding outcomeOf visit withVisited
+  outcome-good mismatch h = failing-good (Mismatch (p .sub) (p .sup)) (mismatch-right (visit p s) p right)
+  outcome-good (missing n) h = failing-good (MissingField (p .sub) (p .sup) n) (missing-right (visit p s) p n right h)
+  outcome-good (follow u qs) h = let l = leads-trans visited (h .0) in (l .good, h .1, l .appends)
+
+  pub rule-good : GoodOutcome s p (rule s p)
+  unfolding rule visit withVisited
+  rule-good =
+      by-test (GoodOutcome s p) (eqb (p .sub) (p .sup) || isVisited s p) (λ h. (good, all-empty (pairRight (s .entries)), appends-refl s))
+      (λ h. outcome-good (pairRule (visit p s) (p .sub) (p .sup)) (pair-rule-good (visit p s) (visited .good) (p .sub) (p .sup) lsub lsup))

@@ -5,6 +5,7 @@ use native.Mathlib.Omega.{arith}
 use mathlib.Core.Path.{_≡_, refl, sym, _∙_}
 use mathlib.Core.List.{List, [], _∷_, _++_}
 use mathlib.Core.Bool.{Bool, true, false, not, cond, _&&_, _||_}
+use mathlib.Core.Logic.{_⊎_, ⊎-elim}
 use lib.ListN.{length}
 use lib.Dec.{T, eqb, ltb, not-T}
 use Rattle.model.specs.Lists.{isZero, allOf, all}
@@ -18,7 +19,7 @@ use Rattle.model.specs.declared.Failure.the-variants.{Mismatch, MissingField}
 use Rattle.laws.specs.Good.{EntriesGood, Good}
 use Rattle.laws.specs.Growth.{EntriesKept, Begins, Grows, Appends}
 use Rattle.laws.proofs.Tests.{both, first, second, all-passed, none, _and_, all-append, all-one, of-le, of-lt}
-use Rattle.laws.proofs.Entries.{kept-refl, pairs-more, fields-right-more, bounds-right-kept, break-right-more, mark-good, mark-kept, mark-same}
+use Rattle.laws.proofs.Entries.{same-or-not, kept-refl, pairs-more, fields-right-more, bounds-right-kept, break-right-more, changed-at, changed-other, mark-good, mark-kept}
 use Rattle.laws.proofs.Growing.{begins-refl, appends-refl, appends-trans}
 
 -- what holds of both choices of a test
@@ -105,9 +106,12 @@ module _ (s : Store) (good : Good s) where
       bound-leads (record { variable = v; side = side; bound = b })
       (all-passed _ (of-lt v (length (s .entries)) lt and var and of-le side upper le and of-lt b (length (s .entries)) lt' and none)))
 
-  pub mark-leads : (n : ℕ) → Leads s (markEntry n s)
+  pub mark-leads : (n : ℕ) → n < length (s .entries) → Leads s (markEntry n s)
   unfolding markEntry
-  mark-leads n = entries-lead (changed withMark (s .entries) n) (mark-good (s .entries) (s .fields) (s .names) n (good .entries)) (mark-kept (s .entries) n) (mark-same (s .entries) n)
+  mark-leads n h =
+      let es = s .entries in
+      entries-lead (changed withMark es n) (mark-good es (s .fields) (s .names) n (good .entries) h) (mark-kept es n h)
+      (λ i lt. ⊎-elim (λ (e : i ≡ n). rw (e, changed-at withMark es n h)) (λ (ne : i ≡ n → ⊥). rw (changed-other withMark es n i ne)) (same-or-not i n))
 
   broken-leads : (b : Break) → T (breakRight (withBroken b s)) → Leads s (withBroken b s)
   unfolding withBroken
