@@ -5,3 +5,4 @@ pub mod Growing
 pub mod Stores
 pub mod Arms
 pub mod RuleGood
+pub mod StepSound
