@@ -6,3 +6,8 @@ pub mod Formed
 pub mod Entries
 pub mod Undone
 pub mod Negation
+pub mod Growing
+pub mod Stores
+pub mod Arms
+pub mod RuleGood
+pub mod StepSound
