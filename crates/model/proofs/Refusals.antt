@@ -7,7 +7,7 @@ use lib.ListN.{length, replicate, set}
 use lib.Dec.{eqb}
 use Rattle.model.specs.Table.{Capacities}
 use Rattle.model.specs.Image.{imageLength}
-use Rattle.model.specs.Calls.{Call, starts, makesVariable, makesPrimitive, makesList, makesLambda, makesAttrset, makesNamed, makesNeg, makesInter, makesUnion, marks, putsBound, enters, exits, setsLevel, asks, asksEqual, works, abandons, readsEntry, readsRecord, readsDisjoint, perform}
+use Rattle.model.specs.Calls.{Call, makesVariable, makesPrimitive, makesList, makesLambda, makesAttrset, makesNamed, makesNeg, makesInter, makesUnion, marks, putsBound, enters, exits, setsLevel, asks, asksEqual, works, abandons, readsEntry, readsRecord, readsDisjoint, start, perform}
 use Rattle.model.specs.Told.{Told, done, yes, more, failed, refused}
 use Rattle.model.specs.Bench.{afterAll, madeWords, most}
 use Rattle.model.specs.declared.Dynamic.the-variants.{Absent, Present}
@@ -119,17 +119,34 @@ refusals =
     -- 6, after 5
     ++ inWords (image (caps 16 1 0 0 0 0) (deep 0 1 ++ deep 4 8 ++ (makesNamed 12 0 ∷ []))) (refused 6 []) (makesNamed 13 0 ∷ makesNeg 13 ∷ makesUnion 13 0 ∷ makesInter 12 12 ∷ [])
     ++ inWords (image (caps 14 1 0 0 0 0) (deep 0 1 ++ deep 4 8 ++ (makesNamed 12 0 ∷ []))) (refused 5 (1 ∷ [])) (makesNamed 13 0 ∷ makesNeg 13 ∷ [])
-    -- 9: each capacity over its maximum, sizes, names, functor
-    ++ inWords (replicate 168 7) (refused 9 [])
-    (starts 3 1 (caps 4097 0 0 0 0 0) ∷ starts 3 1 (caps 0 16385 0 0 0 0) ∷ starts 3 1 (caps 0 0 65537 0 0 0) ∷ starts 3 1 (caps 0 0 0 65537 0 0)
-    ∷ starts 3 1 (caps 0 0 0 0 65537 0) ∷ starts 3 1 (caps 0 0 0 0 0 65537) ∷ starts 3 1 (caps 13 6 4 4 4 1) ∷ starts 3 1 (caps 13 6 4 4 4 3)
-    ∷ starts 4097 1 (caps 13 6 4 4 4 2) ∷ starts 3 4 (caps 13 6 4 4 4 2) ∷ [])
-    ++ inWords (replicate 26 7) (refused 9 []) (starts 0 0 (caps 0 0 0 0 0 0) ∷ [])
+
+-- 9: each capacity over its maximum, sizes, names, functor
+pub record Begin : Type 0 where
+  pub names : ℕ
+  pub functor : ℕ
+  pub capacities : Capacities
+  pub size : ℕ
+
+pub begin : ℕ → ℕ → Capacities → ℕ → Begin
+begin n f c k = record { names = n; functor = f; capacities = c; size = k }
+
+pub starts : List Begin
+starts =
+    begin 3 1 (caps 4097 0 0 0 0 0) 28706 ∷ begin 3 1 (caps 0 16385 0 0 0 0) 49182 ∷ begin 3 1 (caps 0 0 65537 0 0 0) 196638 ∷ begin 3 1 (caps 0 0 0 65537 0 0) 131101
+    ∷ begin 3 1 (caps 0 0 0 0 65537 0) 131101 ∷ begin 3 1 (caps 0 0 0 0 0 65537) 131101 ∷ begin 3 1 (caps 13 6 4 4 4 1) 168 ∷ begin 3 1 (caps 13 6 4 4 4 3) 168
+    ∷ begin 4097 1 (caps 13 6 4 4 4 2) 168 ∷ begin 3 4 (caps 13 6 4 4 4 2) 168 ∷ begin 0 0 (caps 0 0 0 0 0 0) 26 ∷ begin 0 0 (caps 0 0 0 0 0 0) 28 ∷ []
+
+pub startSays : Begin → Told
+startSays b = start (b .names) (b .functor) (b .capacities) (replicate (b .size) 7) .says
 
 pub open-refusals : Unit {0}
-unfolding computed sameWords heard expected inWords caps four image wide asked broken brokenAsked changes others deep refusals
+unfolding computed sameWords heard expected inWords caps four image wide asked broken brokenAsked changes others deep refusals begin starts startSays
 open-refusals = tt
 
 pub refused-in-order : map heard refusals ≡ map expected refusals
 unfolding open-refusals
 refused-in-order = refl
+
+pub start-refused : map startSays starts ≡ map (λ b. refused 9 []) starts
+unfolding open-refusals
+start-refused = refl
