@@ -8,7 +8,7 @@ use mathlib.Core.Logic.{_⊎_, inl, inr, ⊎-elim}
 use lib.ListN.{length}
 use lib.Dec.{eqb, leb}
 use borrow.Author.Tests.{eqb-true, lt-leb}
-use Rattle.model.specs.Format.{neg, inter, union}
+use Rattle.model.specs.Format.{attrset, neg, inter, union}
 use Rattle.model.specs.Table.{Entry, Field, entryAt, is}
 use Rattle.model.specs.Making.{spreadAt, spreadOf, Making, freshEntry, putEntry, newEntry, changed, withNegation, cachedAs}
 use Rattle.model.specs.Making.{Negating, cached, twice, spreadOver, fresh, negatingUncached, negatingBy, negating, negBy, negWithin, makeNeg, undone}
@@ -16,7 +16,7 @@ use Rattle.model.specs.Shapes.{unionMember}
 use Rattle.model.specs.Rules.{target}
 use Rattle.laws.specs.Good.{EntriesGood, Shallow}
 use Rattle.laws.specs.Growth.{EntriesKept}
-use Rattle.laws.proofs.Entries.{lt-or-ge, kept-refl, kept-trans, more-old, changed-length, changed-other, changed-word, negation-kept, negation-good, negation-known, spread-known, x-known, y-known, new-kept, new-number, new-length, neg-good, inter-good, union-good}
+use Rattle.laws.proofs.Entries.{lt-or-ge, same-or-not, kept-refl, kept-trans, more-old, more-last, changed-length, changed-at, changed-other, changed-word, negation-kept, negation-good, negation-known, spread-known, x-known, y-known, new-kept, new-number, new-length, neg-good, inter-good, union-good}
 use Rattle.laws.proofs.Undone.{undone-append, undone-cached, Undoable, undoable-refl, undoable-trans, undo-exact}
 
 -- What a making m on the entries es leaves, of which none above n is changed.
@@ -210,3 +210,89 @@ undo-neg es fs names n g h = undo-grown es fs names n (makeNeg es n) g (neg-grow
 
 pub undo-target : (es : List Entry) (fs : List Field) (names sup d : ℕ) → EntriesGood es fs names → sup < length es → d < length es → undone (length es) (target sup (makeNeg es d) .after) ≡ es
 undo-target es fs names sup d g s h = undo-grown es fs names d (target sup (makeNeg es d)) g (target-grown es fs names sup d g s h)
+
+-- How deep it goes: a cached negation has at most 1,025 times the spread of its owner.
+abbrev pub CachedLow : List Entry → Type 0
+CachedLow es = (i c : ℕ) → i < length es → entryAt es i .negation ≡ suc c → spreadAt es c ≤ 1025 * spreadAt es i
+
+pub record Deep (es : List Entry) (n : ℕ) (m : Making) : Type 0 where
+  pub low : CachedLow (m .after)
+  pub ratio : spreadAt (m .after) (m .number) ≤ 1025 * spreadAt es n
+  pub deep : (i : ℕ) → length es ≤ i → i < length (m .after) → spreadAt (m .after) i ≤ spreadAt (m .after) (m .number)
+
+spread-least : (es : List Entry) (kind x y : ℕ) → 1 ≤ spreadOf es kind x y
+unfolding spreadOf
+spread-least es kind x y = by (leb kind attrset) (leb kind neg)
+  where
+    by : (a b : Bool) → 1 ≤ cond a 1 (cond b (1 + spreadAt es x) (1 + spreadAt es x + spreadAt es y))
+    by true b = omega arith
+    by false true = omega arith
+    by false false = omega arith
+
+spread-one : (es : List Entry) (kind x y : ℕ) → kind ≡ neg → spreadOf es kind x y ≡ 1 + spreadAt es x
+unfolding spreadOf
+spread-one es kind x y q = rw q
+
+spread-two : (es : List Entry) (kind x y : ℕ) → neg < kind → spreadOf es kind x y ≡ 1 + spreadAt es x + spreadAt es y
+unfolding spreadOf
+spread-two es kind x y h = rw (lt-leb kind attrset (omega arith), lt-leb kind neg (omega arith))
+
+pub spread-low : (es : List Entry) (fs : List Field) (names : ℕ) → EntriesGood es fs names → (i : ℕ) → i < length es → 1 ≤ spreadAt es i
+spread-low es fs names g i h = omega (arith, spread-known es fs names g i h, spread-least es (entryAt es i .kind) (entryAt es i .x) (entryAt es i .y))
+
+pub shallow-low : (es : List Entry) (fs : List Field) (names : ℕ) → EntriesGood es fs names → Shallow es → CachedLow es
+shallow-low es fs names g s i c h e =
+    omega (arith, s c (omega (arith, negation-known es fs names g i h)), spread-low es fs names g i h)
+
+-- a new entry, and its spread
+new-last : (es : List Entry) (kind x y : ℕ) → entryAt (newEntry es kind x y .after) (length es) ≡ freshEntry es kind x y 0 0
+unfolding newEntry putEntry
+new-last es kind x y = more-last es (freshEntry es kind x y 0 0)
+
+low-new : (es : List Entry) (fs : List Field) (names kind x y : ℕ) → EntriesGood es fs names → CachedLow es → CachedLow (newEntry es kind x y .after)
+low-new es fs names kind x y g l i c h e =
+    ⊎-elim
+    (λ (lt : i < length es).
+    let f : entryAt es i .negation ≡ suc c = ap (λ (d : Entry). d .negation) (sym (new-old es kind x y i lt)) ∙ e in
+    let k = new-kept es kind x y in
+    rw (k .kept i lt .spread, k .kept c (omega (arith, negation-known es fs names g i lt)) .spread) (l i c lt f))
+    (λ (ge : length es ≤ i).
+    let q : i ≡ length es = omega (arith, new-length es kind x y) in
+    let f : 0 ≡ suc c = ap (λ (d : Entry). d .negation) (sym (new-last es kind x y)) ∙ (rw q at e) in
+    absurd (omega arith))
+    (lt-or-ge i (length es))
+
+low-cached : (es : List Entry) (n k : ℕ) → n < length es → CachedLow es → spreadAt es k ≤ 1025 * spreadAt es n → CachedLow (changed (withNegation (suc k)) es n)
+low-cached es n k h l r i c lt e =
+    let f : Entry → Entry = withNegation (suc k) in
+    let len = changed-length f es n in
+    let same : (j : ℕ) → spreadAt (changed f es n) j ≡ spreadAt es j = changed-word f es n (λ d. d .spread) h refl in
+    rw (same c, same i) (⊎-elim
+    (λ (q : i ≡ n).
+    let z : k ≡ c = omega (arith, ap (λ (d : Entry). d .negation) (changed-at f es n h), rw q at e) in
+    rw (q, ← z) r)
+    (λ (ne : i ≡ n → ⊥). l i c (omega arith) (ap (λ (d : Entry). d .negation) (sym (changed-other f es n i ne)) ∙ e))
+    (same-or-not i n))
+
+-- a new entry on us, which were made of es, cached as the negation of n
+deep-cached : (es us : List Entry) (fs : List Field) (names n kind x y : ℕ) → EntriesGood us fs names → CachedLow us → EntriesKept es us → n < length es
+    → spreadOf us kind x y ≤ 1025 * spreadAt es n → ((i : ℕ) → length es ≤ i → i < length us → spreadAt us i ≤ spreadOf us kind x y) → Deep es n (cachedAs n (newEntry us kind x y))
+unfolding cachedAs
+deep-cached es us fs names n kind x y g l k h r dp =
+    let m : Making = newEntry us kind x y in
+    let f : Entry → Entry = withNegation (suc (m .number)) in
+    let num : m .number ≡ length us = new-number us kind x y in
+    let len : length (m .after) ≡ length us + 1 = new-length us kind x y in
+    let hn : n < length (m .after) = omega (arith, k .longer) in
+    let same : (j : ℕ) → spreadAt (changed f (m .after) n) j ≡ spreadAt (m .after) j = changed-word f (m .after) n (λ d. d .spread) hn refl in
+    let last : spreadAt (m .after) (m .number) ≡ spreadOf us kind x y = rw num (ap (λ (d : Entry). d .spread) (new-last us kind x y)) in
+    let own : spreadAt (m .after) n ≡ spreadAt es n = new-kept us kind x y .kept n (omega (arith, k .longer)) .spread ∙ k .kept n h .spread in
+    record {
+      low = low-cached (m .after) n (m .number) hn (low-new us fs names kind x y g l) (omega arith);
+      ratio = omega (arith, same (m .number));
+      deep = λ i ge lt.
+          rw (same i, same (m .number), last) (⊎-elim
+          (λ (c : i < length us). rw (new-kept us kind x y .kept i c .spread) (dp i ge c))
+          (λ (c : length us ≤ i). let q : i ≡ m .number = omega (arith, changed-length f (m .after) n) in rw (q, last) (omega arith))
+          (lt-or-ge i (length us)));
+    }
