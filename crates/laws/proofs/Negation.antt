@@ -2,7 +2,7 @@
 use Prim.Native.Nat.{ℕ, zero, suc, _+_, _*_, _≤_, _<_, max}
 use native.Mathlib.Omega.{arith}
 use mathlib.Core.Path.{_≡_, refl, sym, ap, _∙_}
-use mathlib.Core.List.{List, [], _∷_, _++_}
+use mathlib.Core.List.{List, [], _∷_}
 use mathlib.Core.Bool.{Bool, true, false, cond}
 use mathlib.Core.Logic.{_⊎_, inl, inr, ⊎-elim}
 use lib.ListN.{length}
@@ -122,95 +122,6 @@ fits : (e : Entry) → Fits e (negating e)
 unfolding negating
 fits e = fits-by e (e .negation) refl
 
--- the negation of b is made after that of a, and then an entry of both
-abbrev second : (List Entry → ℕ → Making) → List Entry → ℕ → ℕ → Making
-second again es a b = again (again es a .after) b
-
-abbrev over : (List Entry → ℕ → Making) → List Entry → ℕ → ℕ → ℕ → Making
-over again es kind a b = newEntry (second again es a b .after) kind (again es a .number) (second again es a b .number)
-
-two-good : (es : List Entry) (fs : List Field) (names kind x y : ℕ) → EntriesGood es fs names → x < length es → y < length es → (kind ≡ inter) ⊎ (kind ≡ union)
-    → EntriesGood (newEntry es kind x y .after) fs names
-two-good es fs names kind x y g h k =
-    ⊎-elim (λ (q : kind ≡ inter). rw q (inter-good es fs names g x y h k)) (λ (q : kind ≡ union). rw q (union-good es fs names g x y h k))
-
--- making by cases, if making the parts does
-module _ (fs : List Field) (names : ℕ) (again : List Entry → ℕ → Making) (es : List Entry) (n : ℕ) (g : EntriesGood es fs names) (h : n < length es)
-    (parts : (us : List Entry) (i : ℕ) → EntriesGood us fs names → i < n → i < length us → Grown us fs names i (again us i)) where
-  module _ (kind a b : ℕ) (e : Fits (entryAt es n) (spreadOver kind a b)) where
-    below-one : a < n
-    below-one = omega (arith, x-known es fs names g n h (omega arith))
-
-    below-two : b < n
-    below-two = omega (arith, y-known es fs names g n h (omega arith))
-
-    grown-one : Grown es fs names a (again es a)
-    grown-one = parts es a g below-one (omega (arith, below-one))
-
-    grown-two : Grown (again es a .after) fs names b (second again es a b)
-    grown-two = parts (again es a .after) b (grown-one .good) below-two (omega (arith, below-two, grown-one .least))
-
-    grown-parts : Grown es fs names (max a b) (second again es a b)
-    grown-parts = grown-then fs names es (max a b) a b (again es a) (second again es a b) (omega arith) (omega arith) grown-one grown-two
-
-    grown-over : Grown es fs names (max a b) (over again es kind a b)
-    grown-over =
-        grown-then fs names es (max a b) (max a b) 0 (second again es a b) (over again es kind a b) (omega arith) (omega arith) grown-parts
-        (grown-new fs names (second again es a b .after) 0 kind (again es a .number) (second again es a b .number)
-        (two-good (second again es a b .after) fs names kind (again es a .number) (second again es a b .number) (grown-two .good)
-        (omega (arith, grown-one .number, grown-two .least)) (grown-two .number) (e .2)))
-
-    uncached : entryAt (over again es kind a b .after) n .negation ≡ 0
-    uncached = ap (λ (d : Entry). d .negation) (grown-over .above n (omega (arith, below-one, below-two)) h) ∙ e .0
-
-  grown-by : (d : Negating) → Fits (entryAt es n) d → Grown es fs names n (negBy again es n d)
-  unfolding negBy
-  grown-by (cached c) e = grown-none fs names es n c g (omega (arith, negation-known es fs names g n h))
-  grown-by (twice x) e = grown-none fs names es n x g (omega (arith, x-known es fs names g n h (omega arith)))
-  grown-by (spreadOver kind a b) e =
-      grown-cached fs names es n (max a b) (over again es kind a b) (omega (arith, below-one kind a b e, below-two kind a b e)) (grown-over kind a b e) h (uncached kind a b e)
-      (omega (arith, grown-parts kind a b e .least, new-number (second again es a b .after) kind (again es a .number) (second again es a b .number)))
-  grown-by fresh e =
-      grown-cached fs names es n n (newEntry es neg n 0) (omega arith) (grown-new fs names es n neg n 0 (neg-good es fs names g n h)) h
-      (ap (λ (d : Entry). d .negation) (new-old es neg n 0 n h) ∙ e) (omega (arith, new-number es neg n 0))
-
-grown-within : (fs : List Field) (names rounds : ℕ) (es : List Entry) (n : ℕ) → EntriesGood es fs names → n < rounds → n < length es → Grown es fs names n (negWithin rounds es n)
-unfolding negWithin
-grown-within fs names zero es n g r h = absurd (omega arith)
-grown-within fs names (suc rounds) es n g r h =
-    grown-by fs names (negWithin rounds) es n g h (λ us i gu ni lt. grown-within fs names rounds us i gu (omega arith) lt) (negating (entryAt es n)) (fits (entryAt es n))
-
-pub neg-grown : (es : List Entry) (fs : List Field) (names n : ℕ) → EntriesGood es fs names → n < length es → Grown es fs names n (makeNeg es n)
-unfolding makeNeg
-neg-grown es fs names n g h = grown-within fs names (suc n) es n g (omega arith) h
-
--- the rule's mix: Neg(d), and the union of sup and that
-pub target-grown : (es : List Entry) (fs : List Field) (names sup d : ℕ) → EntriesGood es fs names → sup < length es → d < length es → Grown es fs names d (target sup (makeNeg es d))
-unfolding target
-target-grown es fs names sup d g s h = by (unionMember (makeNeg es d .after) (makeNeg es d .number) sup)
-  where
-    m : Grown es fs names d (makeNeg es d)
-    m = neg-grown es fs names d g h
-
-    up : sup < length (makeNeg es d .after)
-    up = omega (arith, m .least)
-
-    by : (t : Bool) → Grown es fs names d (cond t (record { number = sup; after = makeNeg es d .after }) (newEntry (makeNeg es d .after) union sup (makeNeg es d .number)))
-    by true = grown-then fs names es d d d (makeNeg es d) (record { number = sup; after = makeNeg es d .after }) (omega arith) (omega arith) m (grown-none fs names (makeNeg es d .after) d sup (m .good) up)
-    by false =
-        grown-then fs names es d d d (makeNeg es d) (newEntry (makeNeg es d .after) union sup (makeNeg es d .number)) (omega arith) (omega arith) m
-        (grown-new fs names (makeNeg es d .after) d union sup (makeNeg es d .number) (union-good (makeNeg es d .after) fs names (m .good) sup (makeNeg es d .number) up (m .number)))
-
--- what was made is taken off again exactly
-pub undo-grown : (es : List Entry) (fs : List Field) (names n : ℕ) (m : Making) → EntriesGood es fs names → Grown es fs names n m → undone (length es) (m .after) ≡ es
-undo-grown es fs names n m g w = undo-exact es (m .after) (negation-known es fs names g) (w .undo)
-
-pub undo-neg : (es : List Entry) (fs : List Field) (names n : ℕ) → EntriesGood es fs names → n < length es → undone (length es) (makeNeg es n .after) ≡ es
-undo-neg es fs names n g h = undo-grown es fs names n (makeNeg es n) g (neg-grown es fs names n g h)
-
-pub undo-target : (es : List Entry) (fs : List Field) (names sup d : ℕ) → EntriesGood es fs names → sup < length es → d < length es → undone (length es) (target sup (makeNeg es d) .after) ≡ es
-undo-target es fs names sup d g s h = undo-grown es fs names d (target sup (makeNeg es d)) g (target-grown es fs names sup d g s h)
-
 -- How deep it goes: a cached negation has at most 1,025 times the spread of its owner.
 abbrev pub CachedLow : List Entry → Type 0
 CachedLow es = (i c : ℕ) → i < length es → entryAt es i .negation ≡ suc c → spreadAt es c ≤ 1025 * spreadAt es i
@@ -296,3 +207,142 @@ deep-cached es us fs names n kind x y g l k h r dp =
           (λ (c : length us ≤ i). let q : i ≡ m .number = omega (arith, changed-length f (m .after) n) in rw (q, last) (omega arith))
           (lt-or-ge i (length us)));
     }
+
+-- the negation of b is made after that of a, and then an entry of both
+abbrev second : (List Entry → ℕ → Making) → List Entry → ℕ → ℕ → Making
+second again es a b = again (again es a .after) b
+
+abbrev over : (List Entry → ℕ → Making) → List Entry → ℕ → ℕ → ℕ → Making
+over again es kind a b = newEntry (second again es a b .after) kind (again es a .number) (second again es a b .number)
+
+two-good : (es : List Entry) (fs : List Field) (names kind x y : ℕ) → EntriesGood es fs names → x < length es → y < length es → (kind ≡ inter) ⊎ (kind ≡ union)
+    → EntriesGood (newEntry es kind x y .after) fs names
+two-good es fs names kind x y g h k =
+    ⊎-elim (λ (q : kind ≡ inter). rw q (inter-good es fs names g x y h k)) (λ (q : kind ≡ union). rw q (union-good es fs names g x y h k))
+
+-- making by cases, if making the parts does
+module _ (fs : List Field) (names : ℕ) (again : List Entry → ℕ → Making) (es : List Entry) (n : ℕ) (g : EntriesGood es fs names) (h : n < length es)
+    (parts : (us : List Entry) (i : ℕ) → EntriesGood us fs names → i < n → i < length us → Grown us fs names i (again us i)) where
+  module _ (kind a b : ℕ) (e : Fits (entryAt es n) (spreadOver kind a b)) where
+    below-one : a < n
+    below-one = omega (arith, x-known es fs names g n h (omega arith))
+
+    below-two : b < n
+    below-two = omega (arith, y-known es fs names g n h (omega arith))
+
+    grown-one : Grown es fs names a (again es a)
+    grown-one = parts es a g below-one (omega (arith, below-one))
+
+    grown-two : Grown (again es a .after) fs names b (second again es a b)
+    grown-two = parts (again es a .after) b (grown-one .good) below-two (omega (arith, below-two, grown-one .least))
+
+    grown-parts : Grown es fs names (max a b) (second again es a b)
+    grown-parts = grown-then fs names es (max a b) a b (again es a) (second again es a b) (omega arith) (omega arith) grown-one grown-two
+
+    grown-over : Grown es fs names (max a b) (over again es kind a b)
+    grown-over =
+        grown-then fs names es (max a b) (max a b) 0 (second again es a b) (over again es kind a b) (omega arith) (omega arith) grown-parts
+        (grown-new fs names (second again es a b .after) 0 kind (again es a .number) (second again es a b .number)
+        (two-good (second again es a b .after) fs names kind (again es a .number) (second again es a b .number) (grown-two .good)
+        (omega (arith, grown-one .number, grown-two .least)) (grown-two .number) (e .2)))
+
+    uncached : entryAt (over again es kind a b .after) n .negation ≡ 0
+    uncached = ap (λ (d : Entry). d .negation) (grown-over .above n (omega (arith, below-one, below-two)) h) ∙ e .0
+
+  grown-by : (d : Negating) → Fits (entryAt es n) d → Grown es fs names n (negBy again es n d)
+  unfolding negBy
+  grown-by (cached c) e = grown-none fs names es n c g (omega (arith, negation-known es fs names g n h))
+  grown-by (twice x) e = grown-none fs names es n x g (omega (arith, x-known es fs names g n h (omega arith)))
+  grown-by (spreadOver kind a b) e =
+      grown-cached fs names es n (max a b) (over again es kind a b) (omega (arith, below-one kind a b e, below-two kind a b e)) (grown-over kind a b e) h (uncached kind a b e)
+      (omega (arith, grown-parts kind a b e .least, new-number (second again es a b .after) kind (again es a .number) (second again es a b .number)))
+  grown-by fresh e =
+      grown-cached fs names es n n (newEntry es neg n 0) (omega arith) (grown-new fs names es n neg n 0 (neg-good es fs names g n h)) h
+      (ap (λ (d : Entry). d .negation) (new-old es neg n 0 n h) ∙ e) (omega (arith, new-number es neg n 0))
+
+  module _ (low : CachedLow es) (deeps : (us : List Entry) (i : ℕ) → EntriesGood us fs names → CachedLow us → i < n → i < length us → Deep us i (again us i)) where
+    deep-over : (kind a b : ℕ) → Fits (entryAt es n) (spreadOver kind a b) → Deep es n (cachedAs n (over again es kind a b))
+    deep-over kind a b e =
+        let m : Making = again es a in
+        let l : Making = second again es a b in
+        let us : List Entry = l .after in
+        let gm : Grown es fs names a m = grown-one kind a b e in
+        let gl : Grown (m .after) fs names b l = grown-two kind a b e in
+        let la : a < n = below-one kind a b e in
+        let lb : b < n = below-two kind a b e in
+        let dm : Deep es a m = deeps es a g low la (omega arith) in
+        let dl : Deep (m .after) b l = deeps (m .after) b (gm .good) (dm .low) lb (omega (arith, gm .least)) in
+        let so : spreadOf us kind (m .number) (l .number) ≡ 1 + spreadAt us (m .number) + spreadAt us (l .number) =
+        spread-two us kind (m .number) (l .number) (⊎-elim (λ (q : kind ≡ inter). omega arith) (λ (q : kind ≡ union). omega arith) (e .2)) in
+        let own : spreadAt es n ≡ 1 + spreadAt es a + spreadAt es b =
+        spread-known es fs names g n h ∙ spread-two es (entryAt es n .kind) (entryAt es n .x) (entryAt es n .y) (e .1) ∙ rw (e .3, e .4) in
+        let sp : spreadAt us (m .number) ≡ spreadAt (m .after) (m .number) = gl .kept .kept (m .number) (gm .number) .spread in
+        let sb : spreadAt (m .after) b ≡ spreadAt es b = gm .kept .kept b (omega arith) .spread in
+        deep-cached es us fs names n kind (m .number) (l .number) (gl .good) (dl .low) (grown-parts kind a b e .kept) h
+        (omega (arith, dm .ratio, dl .ratio))
+        (λ i ge lt.
+        ⊎-elim
+        (λ (c : i < length (m .after)). omega (arith, dm .deep i ge c, gl .kept .kept i c .spread))
+        (λ (c : length (m .after) ≤ i). omega (arith, dl .deep i c lt))
+        (lt-or-ge i (length (m .after))))
+
+    deep-by : (d : Negating) → Fits (entryAt es n) d → Deep es n (negBy again es n d)
+    unfolding negBy
+    deep-by (cached c) e = record { low = low; ratio = low n c h e; deep = λ i ge lt. absurd (omega arith) }
+    deep-by (twice x) e = record {
+      low = low;
+      ratio = rw (e .1) (omega (arith, spread-known es fs names g n h, spread-one es (entryAt es n .kind) (entryAt es n .x) (entryAt es n .y) (e .0)));
+      deep = λ i ge lt. absurd (omega arith);
+    }
+    deep-by (spreadOver kind a b) e = deep-over kind a b e
+    deep-by fresh e =
+        let so : spreadOf es neg n 0 ≡ 1 + spreadAt es n = spread-one es neg n 0 refl in
+        deep-cached es es fs names n neg n 0 g low (kept-refl es) h (omega (arith, spread-low es fs names g n h)) (λ i ge lt. absurd (omega arith))
+
+grown-within : (fs : List Field) (names rounds : ℕ) (es : List Entry) (n : ℕ) → EntriesGood es fs names → n < rounds → n < length es → Grown es fs names n (negWithin rounds es n)
+unfolding negWithin
+grown-within fs names zero es n g r h = absurd (omega arith)
+grown-within fs names (suc rounds) es n g r h =
+    grown-by fs names (negWithin rounds) es n g h (λ us i gu ni lt. grown-within fs names rounds us i gu (omega arith) lt) (negating (entryAt es n)) (fits (entryAt es n))
+
+pub neg-grown : (es : List Entry) (fs : List Field) (names n : ℕ) → EntriesGood es fs names → n < length es → Grown es fs names n (makeNeg es n)
+unfolding makeNeg
+neg-grown es fs names n g h = grown-within fs names (suc n) es n g (omega arith) h
+
+-- the rule's mix: Neg(d), and the union of sup and that
+pub target-grown : (es : List Entry) (fs : List Field) (names sup d : ℕ) → EntriesGood es fs names → sup < length es → d < length es → Grown es fs names d (target sup (makeNeg es d))
+unfolding target
+target-grown es fs names sup d g s h = by (unionMember (makeNeg es d .after) (makeNeg es d .number) sup)
+  where
+    m : Grown es fs names d (makeNeg es d)
+    m = neg-grown es fs names d g h
+
+    up : sup < length (makeNeg es d .after)
+    up = omega (arith, m .least)
+
+    by : (t : Bool) → Grown es fs names d (cond t (record { number = sup; after = makeNeg es d .after }) (newEntry (makeNeg es d .after) union sup (makeNeg es d .number)))
+    by true = grown-then fs names es d d d (makeNeg es d) (record { number = sup; after = makeNeg es d .after }) (omega arith) (omega arith) m (grown-none fs names (makeNeg es d .after) d sup (m .good) up)
+    by false =
+        grown-then fs names es d d d (makeNeg es d) (newEntry (makeNeg es d .after) union sup (makeNeg es d .number)) (omega arith) (omega arith) m
+        (grown-new fs names (makeNeg es d .after) d union sup (makeNeg es d .number) (union-good (makeNeg es d .after) fs names (m .good) sup (makeNeg es d .number) up (m .number)))
+
+-- what was made is taken off again exactly
+pub undo-grown : (es : List Entry) (fs : List Field) (names n : ℕ) (m : Making) → EntriesGood es fs names → Grown es fs names n m → undone (length es) (m .after) ≡ es
+undo-grown es fs names n m g w = undo-exact es (m .after) (negation-known es fs names g) (w .undo)
+
+pub undo-neg : (es : List Entry) (fs : List Field) (names n : ℕ) → EntriesGood es fs names → n < length es → undone (length es) (makeNeg es n .after) ≡ es
+undo-neg es fs names n g h = undo-grown es fs names n (makeNeg es n) g (neg-grown es fs names n g h)
+
+pub undo-target : (es : List Entry) (fs : List Field) (names sup d : ℕ) → EntriesGood es fs names → sup < length es → d < length es → undone (length es) (target sup (makeNeg es d) .after) ≡ es
+undo-target es fs names sup d g s h = undo-grown es fs names d (target sup (makeNeg es d)) g (target-grown es fs names sup d g s h)
+
+deep-within : (fs : List Field) (names rounds : ℕ) (es : List Entry) (n : ℕ) → EntriesGood es fs names → CachedLow es → n < rounds → n < length es → Deep es n (negWithin rounds es n)
+unfolding negWithin
+deep-within fs names zero es n g low r h = absurd (omega arith)
+deep-within fs names (suc rounds) es n g low r h =
+    deep-by fs names (negWithin rounds) es n g h (λ us i gu ni lt. grown-within fs names rounds us i gu (omega arith) lt) low
+    (λ us i gu lu ni lt. deep-within fs names rounds us i gu lu (omega arith) lt) (negating (entryAt es n)) (fits (entryAt es n))
+
+pub neg-deep : (es : List Entry) (fs : List Field) (names n : ℕ) → EntriesGood es fs names → Shallow es → n < length es → Deep es n (makeNeg es n)
+unfolding makeNeg
+neg-deep es fs names n g s h = deep-within fs names (suc n) es n g (shallow-low es fs names g s) (omega arith) h
