@@ -1,14 +1,14 @@
 -- Tests that pass, and lists of them: what the other laws use. Assumes nothing.
 use Prim.Native.Nat.{ℕ, zero, suc, _+_, _≤_, _<_}
 use native.Mathlib.Omega.{arith}
-use native.Mathlib.Nat.{zero-add}
-use mathlib.Core.Path.{_≡_, refl}
+use native.Mathlib.Nat.{zero-add, suc-add, add-suc}
+use mathlib.Core.Path.{_≡_, refl, sym, ap, _∙_, subst}
 use mathlib.Core.List.{List, [], _∷_, _++_}
-use mathlib.Core.Bool.{Bool, true, false, _&&_, _||_}
+use mathlib.Core.Bool.{Bool, true, false, not, cond, _&&_, _||_}
 use mathlib.Core.Logic.{_⊎_, inl, inr}
-use lib.ListN.{length, getD}
+use lib.ListN.{length, getD, length-append, take, drop}
 use lib.Dec.{T, eqb, leb, ltb, leb→le, le→leb, ltb→lt, lt→ltb, eqb→eq, eqb-refl}
-use Rattle.model.specs.Lists.{_⇒_, allOf, all, allFrom}
+use Rattle.model.specs.Lists.{_⇒_, allOf, all, any, allFrom}
 
 -- a test that passes is true, and the other way round
 pub true-of : (b : Bool) → T b → b ≡ true
