@@ -309,6 +309,17 @@ pub neg-grown : (es : List Entry) (fs : List Field) (names n : ℕ) → EntriesG
 unfolding makeNeg
 neg-grown es fs names n g h = grown-within fs names (suc n) es n g (omega arith) h
 
+deep-within : (fs : List Field) (names rounds : ℕ) (es : List Entry) (n : ℕ) → EntriesGood es fs names → CachedLow es → n < rounds → n < length es → Deep es n (negWithin rounds es n)
+unfolding negWithin
+deep-within fs names zero es n g low r h = absurd (omega arith)
+deep-within fs names (suc rounds) es n g low r h =
+    deep-by fs names (negWithin rounds) es n g h (λ us i gu ni lt. grown-within fs names rounds us i gu (omega arith) lt) low
+    (λ us i gu lu ni lt. deep-within fs names rounds us i gu lu (omega arith) lt) (negating (entryAt es n)) (fits (entryAt es n))
+
+pub neg-deep : (es : List Entry) (fs : List Field) (names n : ℕ) → EntriesGood es fs names → Shallow es → n < length es → Deep es n (makeNeg es n)
+unfolding makeNeg
+neg-deep es fs names n g s h = deep-within fs names (suc n) es n g (shallow-low es fs names g s) (omega arith) h
+
 -- the rule's mix: Neg(d), and the union of sup and that
 pub target-grown : (es : List Entry) (fs : List Field) (names sup d : ℕ) → EntriesGood es fs names → sup < length es → d < length es → Grown es fs names d (target sup (makeNeg es d))
 unfolding target
@@ -335,14 +346,3 @@ undo-neg es fs names n g h = undo-grown es fs names n (makeNeg es n) g (neg-grow
 
 pub undo-target : (es : List Entry) (fs : List Field) (names sup d : ℕ) → EntriesGood es fs names → sup < length es → d < length es → undone (length es) (target sup (makeNeg es d) .after) ≡ es
 undo-target es fs names sup d g s h = undo-grown es fs names d (target sup (makeNeg es d)) g (target-grown es fs names sup d g s h)
-
-deep-within : (fs : List Field) (names rounds : ℕ) (es : List Entry) (n : ℕ) → EntriesGood es fs names → CachedLow es → n < rounds → n < length es → Deep es n (negWithin rounds es n)
-unfolding negWithin
-deep-within fs names zero es n g low r h = absurd (omega arith)
-deep-within fs names (suc rounds) es n g low r h =
-    deep-by fs names (negWithin rounds) es n g h (λ us i gu ni lt. grown-within fs names rounds us i gu (omega arith) lt) low
-    (λ us i gu lu ni lt. deep-within fs names rounds us i gu lu (omega arith) lt) (negating (entryAt es n)) (fits (entryAt es n))
-
-pub neg-deep : (es : List Entry) (fs : List Field) (names n : ℕ) → EntriesGood es fs names → Shallow es → n < length es → Deep es n (makeNeg es n)
-unfolding makeNeg
-neg-deep es fs names n g s h = deep-within fs names (suc n) es n g (shallow-low es fs names g s) (omega arith) h
