@@ -11,3 +11,4 @@ pub mod Stores
 pub mod Arms
 pub mod RuleGood
 pub mod StepSound
+pub mod Turns
