@@ -12,3 +12,4 @@ pub mod Arms
 pub mod RuleGood
 pub mod StepSound
 pub mod Turns
+pub mod Calls
