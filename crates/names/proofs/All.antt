@@ -1,0 +1,45 @@
+-- Laws of a test that passes at each number below n. Assumes nothing.
+use Prim.Native.Nat.{ℕ, zero, suc, _+_, _<_}
+use native.Mathlib.Nat.{eq-or-lt-of-le}
+use native.Mathlib.Numerals.{add-one}
+use native.Mathlib.Omega.{arith}
+use mathlib.Core.Path.{_≡_, refl}
+use mathlib.Core.Bool.{Bool, true, false, _&&_, and-false}
+use mathlib.Core.Logic.{⊎-elim}
+use Rattle.names.specs.Names.{allBelow}
+
+module _ (p : ℕ → Bool) where
+  pub all-none : allBelow p 0 ≡ true
+  unfolding allBelow
+  all-none = refl
+
+  pub all-more : (i : ℕ) → allBelow p i ≡ true → p i ≡ true → allBelow p (i + 1) ≡ true
+  unfolding allBelow
+  all-more i e h = rw (add-one i, e, h)
+
+  pub all-miss : (i n : ℕ) → i < n → p i ≡ false → allBelow p n ≡ false
+  unfolding allBelow
+  all-miss i zero lt h = absurd (omega arith)
+  all-miss i (suc n) lt h =
+      ⊎-elim
+      (λ (e : i ≡ n). rw (← e, h) (and-false (allBelow p i)))
+      (λ (l : i < n). rw (all-miss i n l h))
+      (eq-or-lt-of-le (omega arith))
+
+  -- where the test passes below n, it passes at each i below n
+  pub all-at : (n : ℕ) → allBelow p n ≡ true → (i : ℕ) → i < n → p i ≡ true
+  unfolding allBelow
+  all-at zero e i lt = absurd (omega arith)
+  all-at (suc n) e i lt =
+      ⊎-elim
+      (λ (q : i ≡ n). rw q (and-right (allBelow p n) (p n) e))
+      (λ (l : i < n). all-at n (and-left (allBelow p n) (p n) e) i l)
+      (eq-or-lt-of-le (omega arith))
+    where
+      and-left : (a b : Bool) → (a && b) ≡ true → a ≡ true
+      and-left true b h = refl
+      and-left false b h = h
+
+      and-right : (a b : Bool) → (a && b) ≡ true → b ≡ true
+      and-right true b h = h
+      and-right false b h = cc

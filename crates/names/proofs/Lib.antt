@@ -1,0 +1,3 @@
+pub mod All
+pub mod Comparing
+pub mod Laying

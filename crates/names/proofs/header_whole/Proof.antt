@@ -1,0 +1,28 @@
+-- `names::header_whole` meets its contract: under 4 bytes not even a count of 0 with its offset is there. Assumes nothing.
+use lib.ListN.{length}
+use mathlib.Core.Path.{sym}
+use borrow.Author.Tests.{lt-leb}
+use Rattle.names.specs.Names.{bytesAt}
+use borrow.Author.Needs.{needs}
+use Rattle.names.proofs.header_whole.Statement.{statement}
+use Rattle.names.proofs.header_whole.Tie as tie
+use Rattle.names.proofs.header_whole.Reads as reads
+use Rattle.names.proofs.header_whole.Lts as lts
+use Rattle.names.proofs.half.Reads as half-reads
+
+returns : tie.Need-returns
+returns c =
+    let bs = c .before .before .args .list .now in sym (lt-leb (bytesAt bs) (length bs) (search needs))
+half-requires : tie.Need-half-requires
+half-requires c κs = search needs
+
+mul-result : tie.Need-mul-result
+mul-result c = search needs
+
+add-result : tie.Need-add-result
+add-result c = search needs
+
+returns-2 : tie.Need-returns-2
+returns-2 c = rw (c .half .ensures .0)
+pub header-whole-spec : {M : Type 1} → statement M
+header-whole-spec = tie.close (tie.spec returns half-requires mul-result add-result returns-2)
