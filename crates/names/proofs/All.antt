@@ -1,12 +1,13 @@
--- Laws of a test that passes at each number below n. Assumes nothing.
+-- Laws of a test that passes at each number below n, and of the first number at which one passes. Assumes nothing.
 use Prim.Native.Nat.{ℕ, zero, suc, _+_, _<_}
 use native.Mathlib.Nat.{eq-or-lt-of-le}
 use native.Mathlib.Numerals.{add-one}
 use native.Mathlib.Omega.{arith}
 use mathlib.Core.Path.{_≡_, refl}
+use mathlib.Core.List.{[], _∷_}
 use mathlib.Core.Bool.{Bool, true, false, _&&_, and-false}
 use mathlib.Core.Logic.{⊎-elim}
-use Rattle.names.specs.Names.{allBelow}
+use Rattle.names.specs.Names.{allBelow, firstBelow}
 
 module _ (p : ℕ → Bool) where
   pub all-none : allBelow p 0 ≡ true
@@ -43,3 +44,20 @@ module _ (p : ℕ → Bool) where
       and-right : (a b : Bool) → (a && b) ≡ true → b ≡ true
       and-right true b h = h
       and-right false b h = cc
+
+  pub first-none : firstBelow p 0 ≡ []
+  unfolding firstBelow
+  first-none = refl
+
+  pub first-more : (i : ℕ) → firstBelow p i ≡ [] → p i ≡ false → firstBelow p (i + 1) ≡ []
+  unfolding firstBelow
+  first-more i e h = rw (add-one i, e, h)
+
+  pub first-hit : (i n : ℕ) → i < n → firstBelow p i ≡ [] → p i ≡ true → firstBelow p n ≡ i ∷ []
+  unfolding firstBelow
+  first-hit i zero lt e h = absurd (omega arith)
+  first-hit i (suc n) lt e h =
+      ⊎-elim
+      (λ (q : i ≡ n). rw (← q, e, h))
+      (λ (l : i < n). rw (first-hit i n l e h))
+      (eq-or-lt-of-le (omega arith))

@@ -121,13 +121,13 @@ unfoldable pub compareAt : List ℕ → ℕ → ℕ → Told
 compareAt bs i j = nameCall bs (i ∷ j ∷ []) (done (compareNames (nameOf bs i) (nameOf bs j) ∷ []))
 
 -- the first number below n at which a test passes, if there is one
+abbrev pub orElse : List ℕ → List ℕ → List ℕ
+orElse [] next = next
+orElse (i ∷ is) next = i ∷ is
+
 unfoldable pub firstBelow : (ℕ → Bool) → ℕ → List ℕ
 firstBelow p zero = []
-firstBelow p (suc n) = orNext (firstBelow p n)
-  where
-    orNext : List ℕ → List ℕ
-    orNext [] = cond (p n) (n ∷ []) []
-    orNext (i ∷ is) = i ∷ is
+firstBelow p (suc n) = orElse (firstBelow p n) (cond (p n) (n ∷ []) [])
 
 abbrev pub hasBytes : List ℕ → List ℕ → ℕ → Bool
 hasBytes bs name i = eqb (compareNames (nameOf bs i) name) same

@@ -1,3 +1,4 @@
+-- `names::ascends_at` meets its contract. Assumes nothing.
 use borrow.Author.Needs.{needs}
 use Rattle.names.proofs.ascends_at.Statement.{statement}
 use Rattle.names.proofs.ascends_at.Tie as tie
@@ -5,38 +6,27 @@ use Rattle.names.proofs.ascends_at.Reads as reads
 use Rattle.names.proofs.ascends_at.Lts as lts
 use Rattle.names.proofs.compare_names.Reads as compare-names-reads
 
--- src/lib.rt:192:34
 add-compare-names : tie.Need-add-compare-names
 add-compare-names c = search needs
 
--- src/lib.rt:192:11
 compare-names-requires : tie.Need-compare-names-requires
 compare-names-requires c κs = search needs
 
--- src/lib.rt:193:26
 enum-told : tie.Need-enum-told
 enum-told c = search needs
 
--- src/lib.rt:194:24
 enum-told-2 : tie.Need-enum-told-2
 enum-told-2 c = search needs
 
--- src/lib.rt:195:25
 enum-told-3 : tie.Need-enum-told-3
 enum-told-3 c = search needs
 
--- src/lib.rt:187:1
 returns : tie.Need-returns
-returns c = ?
-
--- src/lib.rt:187:1
+returns c = rw (← c .before .before .compare-names .ensures, c .enum-told .given .1)
 returns-2 : tie.Need-returns-2
-returns-2 c = ?
-
--- src/lib.rt:187:1
+returns-2 c = rw (← c .before .before .compare-names .ensures, c .enum-told2 .given .1)
 returns-3 : tie.Need-returns-3
-returns-3 c = ?
-
+returns-3 c = rw (← c .before .before .compare-names .ensures, c .enum-told3 .given .1)
 pub ascends-at-spec : {M : Type 1} → statement M
 ascends-at-spec =
     tie.close
