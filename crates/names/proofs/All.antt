@@ -4,10 +4,26 @@ use native.Mathlib.Nat.{eq-or-lt-of-le}
 use native.Mathlib.Numerals.{add-one}
 use native.Mathlib.Omega.{arith}
 use mathlib.Core.Path.{_≡_, refl}
-use mathlib.Core.List.{[], _∷_}
+use mathlib.Core.List.{List, [], _∷_}
 use mathlib.Core.Bool.{Bool, true, false, _&&_, and-false}
 use mathlib.Core.Logic.{⊎-elim}
-use Rattle.names.specs.Names.{allBelow, firstBelow}
+use lib.ListN.{getD}
+use Rattle.names.specs.Names.{allBelow, allOf, firstBelow}
+
+and-left : (a b : Bool) → (a && b) ≡ true → a ≡ true
+and-left true b h = refl
+and-left false b h = h
+
+and-right : (a b : Bool) → (a && b) ≡ true → b ≡ true
+and-right true b h = h
+and-right false b h = cc
+
+-- where all of some tests pass, each does
+pub all-of-at : (ts : List Bool) → allOf ts ≡ true → (k : ℕ) → getD ts k true ≡ true
+unfolding allOf
+all-of-at [] e k = refl
+all-of-at (t ∷ ts) e zero = and-left t (allOf ts) e
+all-of-at (t ∷ ts) e (suc k) = all-of-at ts (and-right t (allOf ts) e) k
 
 module _ (p : ℕ → Bool) where
   pub all-none : allBelow p 0 ≡ true
@@ -36,14 +52,6 @@ module _ (p : ℕ → Bool) where
       (λ (q : i ≡ n). rw q (and-right (allBelow p n) (p n) e))
       (λ (l : i < n). all-at n (and-left (allBelow p n) (p n) e) i l)
       (eq-or-lt-of-le (omega arith))
-    where
-      and-left : (a b : Bool) → (a && b) ≡ true → a ≡ true
-      and-left true b h = refl
-      and-left false b h = h
-
-      and-right : (a b : Bool) → (a && b) ≡ true → b ≡ true
-      and-right true b h = h
-      and-right false b h = cc
 
   pub first-none : firstBelow p 0 ≡ []
   unfolding firstBelow

@@ -4,11 +4,11 @@ use native.Mathlib.Omega.{arith}
 use mathlib.Core.Path.{_≡_, refl}
 use mathlib.Core.List.{List}
 use mathlib.Core.Bool.{true}
-use lib.ListN.{length, take, drop}
+use lib.ListN.{length, getD, take, drop}
 use borrow.Author.Tests.{leb-true, eqb-true}
-use Rattle.names.specs.Names.{nameCount, nameOffset, bytesAt, nameAt, nameOf, headerWhole, risesAt, noneFalls, lastRight}
+use Rattle.names.specs.Names.{nameCount, nameOffset, bytesAt, nameAt, nameOf, headerWhole, risesAt, noneFalls, lastRight, tests, namesRight}
 use Rattle.names.specs.Laid.{Laid}
-use Rattle.names.proofs.All.{all-at}
+use Rattle.names.proofs.All.{all-at, all-of-at}
 
 pub name-part : (bs : List ℕ) (i a b : ℕ) → a ≡ nameAt bs i → b ≡ nameAt bs (i + 1) → take (b - a) (drop a bs) ≡ nameOf bs i
 unfolding nameOf
@@ -36,3 +36,10 @@ module _ (bs : List ℕ) (w : headerWhole bs ≡ true) (f : noneFalls bs ≡ tru
         let last : nameOffset bs (nameCount bs) ≡ length bs - bytesAt bs = eqb-true _ _ l in
         (omega arith, omega arith);
   }
+
+-- a list that is right has its names inside it
+pub right-laid : (bs : List ℕ) → namesRight bs ≡ true → Laid bs
+unfolding namesRight
+right-laid bs e =
+    let test : (k : ℕ) → getD (tests bs) k true ≡ true = all-of-at (tests bs) e in
+    laid bs (test 0) (test 2) (test 3)

@@ -1,3 +1,5 @@
 pub mod All
 pub mod Comparing
 pub mod Laying
+pub mod Tested
+pub mod Calling

@@ -87,18 +87,12 @@ ascendsAt bs i = eqb (compareNames (nameOf bs i) (nameOf bs (i + 1))) before
 abbrev pub ascending : List ℕ → Bool
 ascending bs = allBelow (ascendsAt bs) (nameCount bs - 1)
 
--- a list that is not malformed
+-- a list that is not malformed passes each of these
+abbrev pub tests : List ℕ → List Bool
+tests bs = headerWhole bs ∷ firstZero bs ∷ noneFalls bs ∷ lastRight bs ∷ fewNames bs ∷ noneLong bs ∷ ascending bs ∷ []
+
 unfoldable pub namesRight : List ℕ → Bool
-namesRight bs =
-    allOf
-    (headerWhole bs
-    ∷ firstZero bs
-    ∷ noneFalls bs
-    ∷ lastRight bs
-    ∷ fewNames bs
-    ∷ noneLong bs
-    ∷ ascending bs
-    ∷ [])
+namesRight bs = allOf (tests bs)
 
 -- "a name call tests 12 before 2": 12, the name list malformed; 2, one of the call's name numbers at or above the count;
 -- else the call's own answer

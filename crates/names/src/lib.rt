@@ -323,13 +323,17 @@ pub fn show(list: &[u8], n: u32) -> &[u8]
 pub fn compare(list: &[u8], i: u32, j: u32) -> Compared
     ensures { λ r. ⌜ toldCompared r ≡ compareAt (now (list .entry)) i j ⌝ }
 {
-    match check_name(list, i) {
-        Reply::Done => match check_name(list, j) {
-            Reply::Done => Compared::Order(compare_names(list, i as usize, j as usize)),
-            Reply::Refused(r) => Compared::Refused(r),
-        },
-        Reply::Refused(r) => Compared::Refused(r),
+    if !right(list) {
+        return Compared::Refused(Refusal::BadNames);
     }
+    let count = count_word(list);
+    if count <= i as usize {
+        return Compared::Refused(Refusal::BadNumber);
+    }
+    if count <= j as usize {
+        return Compared::Refused(Refusal::BadNumber);
+    }
+    Compared::Order(compare_names(list, i as usize, j as usize))
 }
 
 // The number of the name that has these bytes.
