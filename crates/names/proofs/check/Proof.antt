@@ -1,3 +1,5 @@
+-- `names::check` meets its contract. Assumes nothing.
+use Rattle.names.specs.Names.{allOf, nameCall, checkNames}
 use borrow.Author.Needs.{needs}
 use Rattle.names.proofs.check.Statement.{statement}
 use Rattle.names.proofs.check.Tie as tie
@@ -5,17 +7,14 @@ use Rattle.names.proofs.check.Reads as reads
 use Rattle.names.proofs.check.Lts as lts
 use Rattle.names.proofs.right.Reads as right-reads
 
--- src/lib.rt:275:8
 right-requires : tie.Need-right-requires
 right-requires c κs = search needs
 
--- src/lib.rt:272:1
 returns : tie.Need-returns
-returns c = ?
-
--- src/lib.rt:272:1
+unfolding checkNames nameCall allOf
+returns c = rw (← c .before .right .ensures, c .if1 .taken)
 returns-2 : tie.Need-returns-2
-returns-2 c = ?
-
+unfolding checkNames nameCall allOf
+returns-2 c = rw (← c .before .right .ensures, c .if1 .left)
 pub check-spec : {M : Type 1} → statement M
 check-spec = tie.close (tie.spec right-requires returns returns-2)

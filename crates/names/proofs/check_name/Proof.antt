@@ -1,3 +1,9 @@
+-- `names::check_name` meets its contract. Assumes nothing.
+use mathlib.Core.Path.{sym}
+use borrow.Author.Tests.{lt-ltb, le-ltb}
+use Rattle.names.specs.Names.{nameCount, allOf, nameCall, checkName}
+use Rattle.names.proofs.Laying.{right-laid}
+use Rattle.names.proofs.Tested.{passed, failed}
 use borrow.Author.Needs.{needs}
 use Rattle.names.proofs.check_name.Statement.{statement}
 use Rattle.names.proofs.check_name.Tie as tie
@@ -6,26 +12,24 @@ use Rattle.names.proofs.check_name.Lts as lts
 use Rattle.names.proofs.count_word.Reads as count-word-reads
 use Rattle.names.proofs.right.Reads as right-reads
 
--- src/lib.rt:286:9
 right-requires : tie.Need-right-requires
 right-requires c κs = search needs
 
--- src/lib.rt:287:9
 returns : tie.Need-returns
-returns c = ?
-
--- src/lib.rt:289:23
+unfolding checkName nameCall allOf
+returns c = rw (failed (c .before .right .ensures) (c .if1 .taken))
 count-word-requires : tie.Need-count-word-requires
-count-word-requires c κs = ?
-
--- src/lib.rt:283:1
+count-word-requires c κs = right-laid _ (passed (c .before .right .ensures) (c .if1 .left)) .whole
 returns-2 : tie.Need-returns-2
-returns-2 c = ?
-
--- src/lib.rt:283:1
+unfolding checkName nameCall allOf
+returns-2 c =
+    let s = c .before .before .before .before .before .args in
+    rw (passed (c .before .before .before .right .ensures) (c .before .before .if1 .left), lt-ltb (s .n) (nameCount (s .list .now)) (search needs))
 returns-3 : tie.Need-returns-3
-returns-3 c = ?
-
+unfolding checkName nameCall allOf
+returns-3 c =
+    let s = c .before .before .before .before .before .args in
+    rw (passed (c .before .before .before .right .ensures) (c .before .before .if1 .left), le-ltb (s .n) (nameCount (s .list .now)) (search needs))
 pub check-name-spec : {M : Type 1} → statement M
 check-name-spec =
     tie.close (tie.spec right-requires returns count-word-requires returns-2 returns-3)
