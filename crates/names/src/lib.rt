@@ -37,6 +37,7 @@ pub enum Found {
     Refused(Refusal),
 }
 
+// A byte's value.
 fn wide(x: u8) -> usize
     ensures { λ r. ⌜ (r ≡ x) × (r < 256) ⌝ }
 {
@@ -67,15 +68,21 @@ fn count_word(list: &[u8]) -> usize
     half(list, 0)
 }
 
+// Where the name bytes start.
+fn bytes_at(list: &[u8]) -> usize
+    requires { ⌜ 4 ≤ length (now list) ⌝ }
+    ensures { λ r. ⌜ (r ≡ bytesAt (now (list .entry))) × (r < 200000) ⌝ }
+{
+    4 + 2 * half(list, 0)
+}
+
 // Where name i starts, and name i - 1 ends.
 fn name_at(list: &[u8], i: usize) -> usize
     requires { ⌜ bytesAt (now list) ≤ length (now list) ⌝ }
     requires { ⌜ i ≤ nameCount (now list) ⌝ }
     ensures { λ r. ⌜ r ≡ nameAt (now (list .entry)) i ⌝ }
 {
-    let count = count_word(list);
-    let from = offset(list, i);
-    4 + 2 * count + from
+    bytes_at(list) + offset(list, i)
 }
 
 // Whether the count and the offsets are all there.
@@ -85,8 +92,7 @@ fn header_whole(list: &[u8]) -> bool
     if list.len() < 4 {
         return false;
     }
-    let count = half(list, 0);
-    4 + 2 * count <= list.len()
+    bytes_at(list) <= list.len()
 }
 
 // Whether the first offset is 0.
@@ -119,7 +125,7 @@ fn last_right(list: &[u8]) -> bool
     ensures { λ r. ⌜ r ≡ lastRight (now (list .entry)) ⌝ }
 {
     let count = count_word(list);
-    offset(list, count) == list.len() - (4 + 2 * count)
+    offset(list, count) == list.len() - bytes_at(list)
 }
 
 // Whether there are at most 4,096 names.

@@ -8,21 +8,15 @@ use Rattle.names.proofs.header_whole.Statement.{statement}
 use Rattle.names.proofs.header_whole.Tie as tie
 use Rattle.names.proofs.header_whole.Reads as reads
 use Rattle.names.proofs.header_whole.Lts as lts
-use Rattle.names.proofs.half.Reads as half-reads
+use Rattle.names.proofs.bytes_at.Reads as bytes-at-reads
 
 returns : tie.Need-returns
 returns c =
     let bs = c .before .before .args .list .now in sym (lt-leb (bytesAt bs) (length bs) (search needs))
-half-requires : tie.Need-half-requires
-half-requires c κs = search needs
-
-mul-result : tie.Need-mul-result
-mul-result c = search needs
-
-add-result : tie.Need-add-result
-add-result c = search needs
+bytes-at-requires : tie.Need-bytes-at-requires
+bytes-at-requires c κs = search needs
 
 returns-2 : tie.Need-returns-2
-returns-2 c = rw (c .half .ensures .0)
+returns-2 c = rw (c .bytes-at .ensures .0)
 pub header-whole-spec : {M : Type 1} → statement M
-header-whole-spec = tie.close (tie.spec returns half-requires mul-result add-result returns-2)
+header-whole-spec = tie.close (tie.spec returns bytes-at-requires returns-2)

@@ -4,6 +4,7 @@ use Rattle.names.proofs.last_right.Statement.{statement}
 use Rattle.names.proofs.last_right.Tie as tie
 use Rattle.names.proofs.last_right.Reads as reads
 use Rattle.names.proofs.last_right.Lts as lts
+use Rattle.names.proofs.bytes_at.Reads as bytes-at-reads
 use Rattle.names.proofs.count_word.Reads as count-word-reads
 use Rattle.names.proofs.offset.Reads as offset-reads
 
@@ -13,18 +14,15 @@ count-word-requires c κs = search needs
 offset-requires : tie.Need-offset-requires
 offset-requires c κs = search needs
 
-mul-result : tie.Need-mul-result
-mul-result c = search needs
-
-add-result : tie.Need-add-result
-add-result c = search needs
+bytes-at-requires : tie.Need-bytes-at-requires
+bytes-at-requires c κs = search needs
 
 sub-result : tie.Need-sub-result
 sub-result c = search needs
 
 returns : tie.Need-returns
-returns c = rw (c .offset .ensures .0, c .before .count-word .ensures .0)
+returns c =
+    rw (c .bytes-at .ensures .0, c .before .offset .ensures .0, c .before .before .count-word .ensures .0)
 pub last-right-spec : {M : Type 1} → statement M
 last-right-spec =
-    tie.close
-    (tie.spec count-word-requires offset-requires mul-result add-result sub-result returns)
+    tie.close (tie.spec count-word-requires offset-requires bytes-at-requires sub-result returns)
