@@ -3,3 +3,5 @@ pub mod Comparing
 pub mod Laying
 pub mod Tested
 pub mod Calling
+pub mod OneToOne
+pub mod Settled
