@@ -3,12 +3,12 @@ use Prim.Native.Nat.{ℕ, zero, suc, _+_, _<_}
 use native.Mathlib.Nat.{eq-or-lt-of-le}
 use native.Mathlib.Numerals.{add-one}
 use native.Mathlib.Omega.{arith}
-use mathlib.Core.Path.{_≡_, refl}
+use mathlib.Core.Path.{_≡_, refl, _∙_}
 use mathlib.Core.List.{List, [], _∷_}
-use mathlib.Core.Bool.{Bool, true, false, _&&_, and-false}
+use mathlib.Core.Bool.{Bool, true, false, cond, _&&_, and-false}
 use mathlib.Core.Logic.{⊎-elim}
 use lib.ListN.{getD}
-use Rattle.names.specs.Names.{allBelow, allOf, firstBelow}
+use Rattle.names.specs.Names.{allBelow, allOf, orElse, firstBelow}
 
 and-left : (a b : Bool) → (a && b) ≡ true → a ≡ true
 and-left true b h = refl
@@ -69,3 +69,22 @@ module _ (p : ℕ → Bool) where
       (λ (q : i ≡ n). rw (← q, e, h))
       (λ (l : i < n). rw (first-hit i n l e h))
       (eq-or-lt-of-le (omega arith))
+
+  -- where the test passes nowhere below n, there is no first number
+  pub first-nowhere : (n : ℕ) → ((k : ℕ) → k < n → p k ≡ false) → firstBelow p n ≡ []
+  unfolding firstBelow
+  first-nowhere zero h = refl
+  first-nowhere (suc n) h = rw (first-nowhere n (λ k l. h k (omega arith)), h n (omega arith))
+
+  by-first : (n i : ℕ) (l : List ℕ) → firstBelow p n ≡ l → (t : Bool) → p n ≡ t → orElse l (cond t (n ∷ []) []) ≡ i ∷ []
+      → (firstBelow p n ≡ i ∷ [] → (i < n) × (p i ≡ true))
+      → (i < suc n) × (p i ≡ true)
+  by-first n i [] q true h e on = let same : n ≡ i = cc in (omega arith, rw (← same) h)
+  by-first n i [] q false h e on = let z : _≡_ {A = ℕ} 0 1 = cc in absurd (omega arith)
+  by-first n i (k ∷ l) q t h e on = let r : (i < n) × (p i ≡ true) = on (q ∙ e) in (omega arith, r .1)
+
+  -- the first number is below n, and the test passes there
+  pub first-found : (n i : ℕ) → firstBelow p n ≡ i ∷ [] → (i < n) × (p i ≡ true)
+  unfolding firstBelow
+  first-found zero i e = let z : _≡_ {A = ℕ} 0 1 = cc in absurd (omega arith)
+  first-found (suc n) i e = by-first n i (firstBelow p n) refl (p n) refl e (λ q. first-found n i q)

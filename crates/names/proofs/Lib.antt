@@ -5,3 +5,4 @@ pub mod Tested
 pub mod Calling
 pub mod OneToOne
 pub mod Settled
+pub mod Laws
