@@ -11,7 +11,7 @@ use lib.ListN.{length, getD}
 use lib.Dec.{eqb, leb, ltb}
 use borrow.Author.Tests.{ltb-true, ltb-false, lt-ltb, le-ltb, lt-leb, eqb-true, eq-eqb, ne-eqb, leb-true}
 use Rattle.model.specs.Told.{Told, done, refused}
-use Rattle.names.specs.Names.{nameCount, nameOf, bytesAt, before, same, after, compareNames, ascendsAt, hasBytes, tests, allOf, namesRight, nameCall, checkNames, compareAt, findName, showName}
+use Rattle.names.specs.Names.{half, nameCount, nameOffset, bytesAt, nameOf, allBelow, allOf, before, same, after, compareNames, ascendsAt, tests, namesRight, nameCall, checkNames, checkName, countNames, compareAt, firstBelow, hasBytes, numberOf, findName, showName}
 use Rattle.names.proofs.All.{all-at, all-of-at, first-hit, first-nowhere, first-found}
 
 -- ---- how names compare
@@ -158,3 +158,98 @@ module _ (bs : List ℕ) (right : namesRight bs ≡ true) where
           let both : done (compareNames (nameOf bs i) (nameOf bs j) ∷ []) ≡ done (before ∷ []) = sym (compare-tells i j h k) ∙ e in
           before-lower i j h k (cc))
 
+  -- ---- what find answers
+
+  find-tells : (name : List ℕ) → findName bs name ≡ done (numberOf bs name)
+  unfolding findName nameCall allOf
+  find-tells name = rw right
+
+  -- the bytes of name n are found at n: there is no lower number with them
+  pub finds : (n : ℕ) → n < nameCount bs → findName bs (nameOf bs n) ≡ done (n ∷ [])
+  finds n h =
+      let passes : hasBytes bs (nameOf bs n) n ≡ true = eq-eqb _ _ (equal-same (nameOf bs n)) in
+      let none-lower : firstBelow (hasBytes bs (nameOf bs n)) n ≡ [] =
+          first-nowhere (hasBytes bs (nameOf bs n)) n (λ k l. rw (ascend k n l h)) in
+      rw (find-tells (nameOf bs n), first-hit (hasBytes bs (nameOf bs n)) n (nameCount bs) h none-lower passes)
+
+  -- bytes that no name has are found nowhere
+  pub finds-none : (name : List ℕ) → ((n : ℕ) → n < nameCount bs → nameOf bs n ≡ name → ⊥) → findName bs name ≡ done []
+  finds-none name h =
+      rw
+      (find-tells name,
+      first-nowhere (hasBytes bs name) (nameCount bs) (λ k l. ne-eqb (compareNames (nameOf bs k) name) same (λ e. h k l (same-equal (nameOf bs k) name e))))
+
+  -- what is found is a name with these bytes
+  pub found-holds : (name : List ℕ) (n : ℕ) → findName bs name ≡ done (n ∷ []) → (n < nameCount bs) × (nameOf bs n ≡ name)
+  found-holds name n e =
+      let both : done (numberOf bs name) ≡ done (n ∷ []) = sym (find-tells name) ∙ e in
+      let first = first-found (hasBytes bs name) (nameCount bs) n (cc) in
+      (first .0, same-equal (nameOf bs n) name (eqb-true _ _ (first .1)))
+
+  -- the part that is shown of a name is found at its number
+  pub shown-found : (n : ℕ) → n < nameCount bs → findName bs (showName bs n) ≡ done (n ∷ [])
+  unfolding showName checkName nameCall allOf
+  shown-found n h = rw (right, lt-ltb n (nameCount bs) h) (finds n h)
+
+-- ---- the shortest lists
+
+-- under 4 bytes is malformed
+pub short-refused : (bs : List ℕ) → length bs < 4 → checkNames bs ≡ refused 12 []
+unfolding checkNames nameCall namesRight allOf
+short-refused bs h = rw (lt-leb (bytesAt bs) (length bs) (omega arith))
+
+-- a count of 0 needs exactly 4 bytes
+pub none-needs-four : (bs : List ℕ) → nameCount bs ≡ 0 → namesRight bs ≡ true → length bs ≡ 4
+unfolding namesRight
+none-needs-four bs z right =
+    let fits : bytesAt bs ≤ length bs = leb-true _ _ (all-of-at (tests bs) right 0) in
+    let first : nameOffset bs 0 ≡ 0 = eqb-true _ _ (all-of-at (tests bs) right 1) in
+    let last : nameOffset bs (nameCount bs) ≡ length bs - bytesAt bs = eqb-true _ _ (all-of-at (tests bs) right 3) in
+    let only : nameOffset bs 0 ≡ length bs - 4 = rw z at last in
+    omega arith
+
+-- ---- examples, computed
+
+unfoldable pub calls : Unit {0}
+unfolding half nameOf allBelow allOf compareNames namesRight nameCall checkNames checkName countNames compareAt firstBelow findName showName
+calls = tt
+
+-- the list `__functor`, `x`, `y`
+abbrev functorName : List ℕ
+functorName = 95 ∷ 95 ∷ 102 ∷ 117 ∷ 110 ∷ 99 ∷ 116 ∷ 111 ∷ 114 ∷ []
+
+abbrev bench : List ℕ
+bench = 3 ∷ 0 ∷ 0 ∷ 0 ∷ 9 ∷ 0 ∷ 10 ∷ 0 ∷ 11 ∷ 0 ∷ 95 ∷ 95 ∷ 102 ∷ 117 ∷ 110 ∷ 99 ∷ 116 ∷ 111 ∷ 114 ∷ 120 ∷ 121 ∷ []
+
+abbrev benchNames : List (List ℕ)
+benchNames = functorName ∷ (120 ∷ []) ∷ (121 ∷ []) ∷ []
+
+pub bench-right : checkNames bench ≡ done []
+unfolding calls
+bench-right = refl
+
+pub bench-gives : map (findName bench) benchNames ≡ done (0 ∷ []) ∷ done (1 ∷ []) ∷ done (2 ∷ []) ∷ []
+unfolding calls
+bench-gives = refl
+
+pub bench-shows : map (showName bench) (0 ∷ 1 ∷ 2 ∷ []) ≡ benchNames
+unfolding calls
+bench-shows = refl
+
+pub bench-refuses : (checkName bench 3 ≡ refused 2 []) × (showName bench 3 ≡ [])
+unfolding calls
+bench-refuses = (refl, refl)
+
+abbrev smallLists : List (List ℕ)
+smallLists =
+    (0 ∷ 0 ∷ 0 ∷ 0 ∷ [])
+    ∷ (0 ∷ 0 ∷ 0 ∷ 0 ∷ 97 ∷ [])
+    ∷ (2 ∷ 0 ∷ 0 ∷ 0 ∷ 2 ∷ 0 ∷ 1 ∷ 0 ∷ 97 ∷ [])
+    ∷ (2 ∷ 0 ∷ 0 ∷ 0 ∷ 1 ∷ 0 ∷ 2 ∷ 0 ∷ 97 ∷ 97 ∷ [])
+    ∷ (2 ∷ 0 ∷ 0 ∷ 0 ∷ 1 ∷ 0 ∷ 2 ∷ 0 ∷ 98 ∷ 97 ∷ [])
+    ∷ []
+
+-- no names in 4 bytes; a fifth byte, a falling offset, two names alike, and names that fall are malformed
+pub small-lists : map checkNames smallLists ≡ done [] ∷ refused 12 [] ∷ refused 12 [] ∷ refused 12 [] ∷ refused 12 [] ∷ []
+unfolding calls
+small-lists = refl
