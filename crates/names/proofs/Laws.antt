@@ -85,16 +85,16 @@ before-before (x ∷ xs) (y ∷ ys) [] p q = absurd (omega arith)
 before-before (x ∷ xs) (y ∷ ys) (z ∷ zs) p q =
     ⊎-elim
     (λ (l : x < y).
-        ⊎-elim
-        (λ (m : y < z). lower-byte x z xs zs (omega arith))
-        (λ (m : (y ≡ z) × (compareNames ys zs ≡ before)). lower-byte x z xs zs (omega arith))
-        (lower-or-same y z (compareNames ys zs) (ltb y z) refl (ltb z y) refl q))
+    ⊎-elim
+    (λ (m : y < z). lower-byte x z xs zs (omega arith))
+    (λ (m : (y ≡ z) × (compareNames ys zs ≡ before)). lower-byte x z xs zs (omega arith))
+    (lower-or-same y z (compareNames ys zs) (ltb y z) refl (ltb z y) refl q))
     (λ (l : (x ≡ y) × (compareNames xs ys ≡ before)).
-        ⊎-elim
-        (λ (m : y < z). lower-byte x z xs zs (omega arith))
-        (λ (m : (y ≡ z) × (compareNames ys zs ≡ before)).
-            same-byte x z xs zs (l .0 ∙ m .0) (before-before xs ys zs (l .1) (m .1)))
-        (lower-or-same y z (compareNames ys zs) (ltb y z) refl (ltb z y) refl q))
+    ⊎-elim
+    (λ (m : y < z). lower-byte x z xs zs (omega arith))
+    (λ (m : (y ≡ z) × (compareNames ys zs ≡ before)).
+    same-byte x z xs zs (l .0 ∙ m .0) (before-before xs ys zs (l .1) (m .1)))
+    (lower-or-same y z (compareNames ys zs) (ltb y z) refl (ltb z y) refl q))
     (lower-or-same x y (compareNames xs ys) (ltb x y) refl (ltb y x) refl p)
 
 -- ---- in a list that is right
@@ -106,7 +106,7 @@ module _ (bs : List ℕ) (right : namesRight bs ≡ true) where
   ascend i zero h l = absurd (omega arith)
   ascend i (suc j) h l =
       let step : compareNames (nameOf bs j) (nameOf bs (j + 1)) ≡ before =
-          eqb-true _ _ (all-at (ascendsAt bs) (nameCount bs - 1) (all-of-at (tests bs) right 6) j (omega arith)) in
+      eqb-true _ _ (all-at (ascendsAt bs) (nameCount bs - 1) (all-of-at (tests bs) right 6) j (omega arith)) in
       let next : compareNames (nameOf bs j) (nameOf bs (suc j)) ≡ before = rw (add-one j) at step in
       ⊎-elim
       (λ (e : i ≡ j). rw e next)
@@ -152,11 +152,12 @@ module _ (bs : List ℕ) (right : namesRight bs ≡ true) where
 
   pub compare-before : (i j : ℕ) → i < nameCount bs → j < nameCount bs
       → (i < j → compareAt bs i j ≡ done (before ∷ [])) × (compareAt bs i j ≡ done (before ∷ []) → i < j)
-  compare-before i j h k =
-      (λ l. rw (compare-tells i j h k, ascend i j l k),
-      λ e.
-          let both : done (compareNames (nameOf bs i) (nameOf bs j) ∷ []) ≡ done (before ∷ []) = sym (compare-tells i j h k) ∙ e in
-          before-lower i j h k (cc))
+  compare-before i j h k = (
+    λ l. rw (compare-tells i j h k, ascend i j l k),
+    λ e.
+        let both : done (compareNames (nameOf bs i) (nameOf bs j) ∷ []) ≡ done (before ∷ []) = sym (compare-tells i j h k) ∙ e in
+        before-lower i j h k (cc),
+  )
 
   -- ---- what find answers
 
@@ -169,15 +170,16 @@ module _ (bs : List ℕ) (right : namesRight bs ≡ true) where
   finds n h =
       let passes : hasBytes bs (nameOf bs n) n ≡ true = eq-eqb _ _ (equal-same (nameOf bs n)) in
       let none-lower : firstBelow (hasBytes bs (nameOf bs n)) n ≡ [] =
-          first-nowhere (hasBytes bs (nameOf bs n)) n (λ k l. rw (ascend k n l h)) in
+      first-nowhere (hasBytes bs (nameOf bs n)) n (λ k l. rw (ascend k n l h)) in
       rw (find-tells (nameOf bs n), first-hit (hasBytes bs (nameOf bs n)) n (nameCount bs) h none-lower passes)
 
   -- bytes that no name has are found nowhere
   pub finds-none : (name : List ℕ) → ((n : ℕ) → n < nameCount bs → nameOf bs n ≡ name → ⊥) → findName bs name ≡ done []
   finds-none name h =
-      rw
-      (find-tells name,
-      first-nowhere (hasBytes bs name) (nameCount bs) (λ k l. ne-eqb (compareNames (nameOf bs k) name) same (λ e. h k l (same-equal (nameOf bs k) name e))))
+      rw (
+        find-tells name,
+        first-nowhere (hasBytes bs name) (nameCount bs) (λ k l. ne-eqb (compareNames (nameOf bs k) name) same (λ e. h k l (same-equal (nameOf bs k) name e))),
+      )
 
   -- what is found is a name with these bytes
   pub found-holds : (name : List ℕ) (n : ℕ) → findName bs name ≡ done (n ∷ []) → (n < nameCount bs) × (nameOf bs n ≡ name)

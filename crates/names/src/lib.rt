@@ -1,7 +1,8 @@
 // Name lists, lent as bytes: the calls that check, count, show, compare and find names, each for any bytes.
 // specs/Names.antt says what a name list is and what each call answers; specs/Answers.antt what each answer tells.
 ghost use Rattle.names.specs.Laid.{Laid};
-use model::{Refusal, Reply};
+use model::Refusal;
+use model::Reply;
 ghost use mathlib.Core.Path.{_≡_};
 ghost use mathlib.Core.Bool.{true};
 ghost use Prim.Native.Nat.{_+_, _*_, _-_, _<_, _≤_};

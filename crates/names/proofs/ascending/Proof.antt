@@ -9,20 +9,19 @@ use Rattle.names.proofs.All.{all-none, all-more, all-miss}
 use borrow.Author.Needs.{needs}
 use Rattle.names.proofs.ascending.Statement.{statement}
 use Rattle.names.proofs.ascending.Tie as tie
-use Rattle.names.proofs.ascending.Reads as reads
-use Rattle.names.proofs.ascending.Lts as lts
-use Rattle.names.proofs.ascends_at.Reads as ascends-at-reads
-use Rattle.names.proofs.count_word.Reads as count-word-reads
 
 abbrev Inv-loop : tie.InvT-loop
 Inv-loop list count i₀ i = (i ≤ count - 1) × (count ≡ nameCount list) × (allBelow (ascendsAt list) i ≡ true)
+
 abbrev μ-loop : tie.MeasureT-loop
 μ-loop list count i₀ i = count - i
+
 count-word-requires : tie.Need-count-word-requires Inv-loop μ-loop
 count-word-requires c κs = search needs
 
 loop-holds : tie.Need-loop-holds Inv-loop μ-loop
 loop-holds c = (search needs, search needs, all-none _)
+
 add-loop : tie.Need-add-loop Inv-loop μ-loop
 add-loop c = search needs
 
@@ -33,6 +32,7 @@ returns : tie.Need-returns Inv-loop μ-loop
 returns c =
     let bs = c .before .before .before .before .before .before .args .list .now in
     sym (all-miss (ascendsAt bs) (c .before .before .before .loop .i) (nameCount bs - 1) (search needs) (sym (c .before .ascends-at .ensures) ∙ not-true _ (c .if1 .taken)))
+
 add-i : tie.Need-add-i Inv-loop μ-loop
 add-i c = search needs
 
@@ -43,10 +43,12 @@ loop-again : tie.Need-loop-again Inv-loop μ-loop
 loop-again c =
     let bs = c .before .before .before .before .before .before .args .list .now in
     (search needs, search needs, all-more (ascendsAt bs) (c .before .before .before .loop .i) (c .before .before .before .loop .inv .2) (sym (c .before .ascends-at .ensures) ∙ not-false _ (c .if1 .left)))
+
 returns-2 : tie.Need-returns-2 Inv-loop μ-loop
 returns-2 c =
     let e : c .before .loop .i ≡ nameCount (c .before .before .before .before .args .list .now) - 1 = omega arith in
     sym (rw e at (c .before .loop .inv .2))
+
 pub ascending-spec : {M : Type 1} → statement M
 ascending-spec =
     tie.close

@@ -2,9 +2,6 @@
 use borrow.Author.Needs.{needs}
 use Rattle.names.proofs.ascends_at.Statement.{statement}
 use Rattle.names.proofs.ascends_at.Tie as tie
-use Rattle.names.proofs.ascends_at.Reads as reads
-use Rattle.names.proofs.ascends_at.Lts as lts
-use Rattle.names.proofs.compare_names.Reads as compare-names-reads
 
 add-compare-names : tie.Need-add-compare-names
 add-compare-names c = search needs
@@ -23,10 +20,13 @@ enum-told-3 c = search needs
 
 returns : tie.Need-returns
 returns c = rw (← c .before .before .compare-names .ensures, c .enum-told .given .1)
+
 returns-2 : tie.Need-returns-2
 returns-2 c = rw (← c .before .before .compare-names .ensures, c .enum-told2 .given .1)
+
 returns-3 : tie.Need-returns-3
 returns-3 c = rw (← c .before .before .compare-names .ensures, c .enum-told3 .given .1)
+
 pub ascends-at-spec : {M : Type 1} → statement M
 ascends-at-spec =
     tie.close

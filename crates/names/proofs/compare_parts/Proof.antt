@@ -9,8 +9,6 @@ use Rattle.names.specs.Names.{compareNames}
 use Rattle.names.proofs.Comparing.{second-ends, first-ends, both-end, lower, higher, agree}
 use Rattle.names.proofs.compare_parts.Statement.{statement}
 use Rattle.names.proofs.compare_parts.Tie as tie
-use Rattle.names.proofs.compare_parts.Reads as reads
-use Rattle.names.proofs.compare_parts.Lts as lts
 
 abbrev Inv-loop : tie.InvT-loop
 Inv-loop a b i₀ i = (i ≤ length a) × (i ≤ length b) × (compareNames a b ≡ compareNames (drop i a) (drop i b))
@@ -52,7 +50,7 @@ loop-less : tie.Need-loop-less Inv-loop μ-loop
 loop-less c = search needs
 
 loop-again : tie.Need-loop-again Inv-loop μ-loop
-loop-again c = 
+loop-again c =
     let s = c .before .before .before .before .before .before .before .before .before .args in let l = c .before .before .before .before .before .before .before .before .loop in
     (search needs, search needs, agree (s .a .now) (s .b .now) (l .i) (l .inv .2) (search needs) (search needs) (c .before .before .before .if2 .left) (c .if3 .left))
 

@@ -2,14 +2,12 @@
 use borrow.Author.Needs.{needs}
 use Rattle.names.proofs.few_names.Statement.{statement}
 use Rattle.names.proofs.few_names.Tie as tie
-use Rattle.names.proofs.few_names.Reads as reads
-use Rattle.names.proofs.few_names.Lts as lts
-use Rattle.names.proofs.count_word.Reads as count-word-reads
 
 count-word-requires : tie.Need-count-word-requires
 count-word-requires c κs = search needs
 
 returns : tie.Need-returns
 returns c = rw (c .count-word .ensures .0)
+
 pub few-names-spec : {M : Type 1} → statement M
 few-names-spec = tie.close (tie.spec count-word-requires returns)

@@ -5,9 +5,6 @@ use borrow.Author.Needs.{needs}
 use Rattle.names.specs.Names.{half}
 use Rattle.names.proofs.half.Statement.{statement}
 use Rattle.names.proofs.half.Tie as tie
-use Rattle.names.proofs.half.Reads as reads
-use Rattle.names.proofs.half.Lts as lts
-use Rattle.names.proofs.wide.Reads as wide-reads
 
 shared-slice-read-wide : tie.Need-shared-slice-read-wide
 shared-slice-read-wide c = search needs

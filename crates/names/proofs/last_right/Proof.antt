@@ -2,11 +2,6 @@
 use borrow.Author.Needs.{needs}
 use Rattle.names.proofs.last_right.Statement.{statement}
 use Rattle.names.proofs.last_right.Tie as tie
-use Rattle.names.proofs.last_right.Reads as reads
-use Rattle.names.proofs.last_right.Lts as lts
-use Rattle.names.proofs.bytes_at.Reads as bytes-at-reads
-use Rattle.names.proofs.count_word.Reads as count-word-reads
-use Rattle.names.proofs.offset.Reads as offset-reads
 
 count-word-requires : tie.Need-count-word-requires
 count-word-requires c κs = search needs
@@ -23,6 +18,7 @@ sub-result c = search needs
 returns : tie.Need-returns
 returns c =
     rw (c .bytes-at .ensures .0, c .before .offset .ensures .0, c .before .before .count-word .ensures .0)
+
 pub last-right-spec : {M : Type 1} → statement M
 last-right-spec =
     tie.close (tie.spec count-word-requires offset-requires bytes-at-requires sub-result returns)

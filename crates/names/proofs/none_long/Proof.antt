@@ -9,20 +9,19 @@ use Rattle.names.proofs.All.{all-none, all-more, all-miss}
 use borrow.Author.Needs.{needs}
 use Rattle.names.proofs.none_long.Statement.{statement}
 use Rattle.names.proofs.none_long.Tie as tie
-use Rattle.names.proofs.none_long.Reads as reads
-use Rattle.names.proofs.none_long.Lts as lts
-use Rattle.names.proofs.count_word.Reads as count-word-reads
-use Rattle.names.proofs.offset.Reads as offset-reads
 
 abbrev Inv-loop : tie.InvT-loop
 Inv-loop list count i₀ i = (i ≤ count) × (count ≡ nameCount list) × (allBelow (shortAt list) i ≡ true)
+
 abbrev μ-loop : tie.MeasureT-loop
 μ-loop list count i₀ i = count - i
+
 count-word-requires : tie.Need-count-word-requires Inv-loop μ-loop
 count-word-requires c κs = search needs
 
 loop-holds : tie.Need-loop-holds Inv-loop μ-loop
 loop-holds c = (search needs, search needs, all-none _)
+
 offset-requires : tie.Need-offset-requires Inv-loop μ-loop
 offset-requires c κs = search needs
 
@@ -40,6 +39,7 @@ returns c =
     let bs = c .before .before .before .before .before .before .before .args .list .now in
     let i = c .before .before .before .before .loop .i in
     sym (all-miss (shortAt bs) i (nameCount bs) (search needs) (lt-leb (nameOffset bs (i + 1) - nameOffset bs i) 255 (search needs)))
+
 add-i : tie.Need-add-i Inv-loop μ-loop
 add-i c = search needs
 
@@ -51,10 +51,12 @@ loop-again c =
     let bs = c .before .before .before .before .before .before .before .args .list .now in
     let i = c .before .before .before .before .loop .i in
     (search needs, search needs, all-more (shortAt bs) i (c .before .before .before .before .loop .inv .2) (le-leb (nameOffset bs (i + 1) - nameOffset bs i) 255 (search needs)))
+
 returns-2 : tie.Need-returns-2 Inv-loop μ-loop
 returns-2 c =
     let e : c .before .loop .i ≡ nameCount (c .before .before .before .before .args .list .now) = omega arith in
     sym (rw e at (c .before .loop .inv .2))
+
 pub none-long-spec : {M : Type 1} → statement M
 none-long-spec =
     tie.close

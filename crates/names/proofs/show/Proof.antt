@@ -12,10 +12,6 @@ use Rattle.names.proofs.Calling.{Named, named, not-accepted}
 use borrow.Author.Needs.{needs}
 use Rattle.names.proofs.show.Statement.{statement}
 use Rattle.names.proofs.show.Tie as tie
-use Rattle.names.proofs.show.Reads as reads
-use Rattle.names.proofs.show.Lts as lts
-use Rattle.names.proofs.check_name.Reads as check-name-reads
-use Rattle.names.proofs.name_at.Reads as name-at-reads
 
 check-name-requires : tie.Need-check-name-requires
 check-name-requires c κs = search needs
@@ -28,6 +24,7 @@ name-at-requires c κs =
     let s = c .before .before .before .before .args in
     let q = named (s .list .now) (s .n) (sym (c .before .before .check-name .ensures) ∙ ap toldReply (c .enum-told .given .1)) in
     (right-laid _ (q .right) .whole, search needs)
+
 add-name-at : tie.Need-add-name-at
 add-name-at c = search needs
 
@@ -36,21 +33,25 @@ name-at-requires-2 c κs =
     let s = c .before .before .before .before .before .args in
     let q = named (s .list .now) (s .n) (sym (c .before .before .before .check-name .ensures) ∙ ap toldReply (c .before .enum-told .given .1)) in
     (right-laid _ (q .right) .whole, search needs)
+
 sub-result : tie.Need-sub-result
 sub-result c =
     let s = c .before .before .before .before .before .before .args in
     let q = named (s .list .now) (s .n) (sym (c .before .before .before .before .check-name .ensures) ∙ ap toldReply (c .before .before .enum-told .given .1)) in
     let h = right-laid _ (q .right) .inside (s .n) (q .below) in search needs
+
 part-result-start : tie.Need-part-result-start
 part-result-start c =
     let s = c .before .before .before .before .before .before .args in
     let q = named (s .list .now) (s .n) (sym (c .before .before .before .before .check-name .ensures) ∙ ap toldReply (c .before .before .enum-told .given .1)) in
     let h = right-laid _ (q .right) .inside (s .n) (q .below) in search needs
+
 part-result-end : tie.Need-part-result-end
 part-result-end c =
     let s = c .before .before .before .before .before .before .args in
     let q = named (s .list .now) (s .n) (sym (c .before .before .before .before .check-name .ensures) ∙ ap toldReply (c .before .before .enum-told .given .1)) in
     let h = right-laid _ (q .right) .inside (s .n) (q .below) in search needs
+
 enum-told-2 : tie.Need-enum-told-2
 enum-told-2 c = search needs
 
@@ -69,13 +70,15 @@ returns c =
     let s = c .before .before .before .before .before .before .before .args in
     let e : checkName (s .list .now) (s .n) ≡ done [] = sym (c .before .before .before .before .before .check-name .ensures) ∙ ap toldReply (c .before .before .before .enum-told .given .1) in
     (rw e (name-part (s .list .now) (s .n) _ _ (c .before .before .name-at .ensures) (c .before .name-at2 .ensures)), rw (e, c .before .before .name-at .ensures))
+
 returns-2 : tie.Need-returns-2
 unfolding showName shownAt
 returns-2 c =
     let s = c .before .before .before .before .before .args in
     let e : accepted (checkName (s .list .now) (s .n)) ≡ false =
-        ap accepted (sym (c .before .before .before .check-name .ensures) ∙ ap toldReply (c .before .enum-told2 .given .1)) ∙ not-accepted (c .before .enum-told2 .given .0 .0) in
+    ap accepted (sym (c .before .before .before .check-name .ensures) ∙ ap toldReply (c .before .enum-told2 .given .1)) ∙ not-accepted (c .before .enum-told2 .given .0 .0) in
     (rw e, rw e)
+
 pub show-spec : {M : Type 1} → statement M
 show-spec =
     tie.close
