@@ -11,13 +11,12 @@ use lib.ListN.{length, getD}
 use lib.Dec.{eqb, leb, ltb}
 use borrow.Author.Tests.{ltb-true, ltb-false, lt-ltb, le-ltb, lt-leb, eqb-true, eq-eqb, ne-eqb, leb-true}
 use Rattle.model.specs.Told.{Told, done, refused}
-use Rattle.names.specs.Names.{half, nameCount, nameOffset, bytesAt, nameOf, allBelow, allOf, before, same, after, compareNames, ascendsAt, tests, namesRight, nameCall, checkNames, checkName, countNames, compareAt, firstBelow, hasBytes, numberOf, findName, showName}
+use Rattle.names.specs.Names.{u16At, nameCount, nameOffset, bytesAt, nameOf, allBelow, allOf, before, same, after, compareNames, ascendsAt, tests, namesRight, nameCall, checkNames, checkName, countNames, compareAt, firstBelow, hasBytes, numberOf, findName, showName}
 use Rattle.names.proofs.All.{all-at, all-of-at, first-hit, first-nowhere, first-found}
 
 -- ---- how names compare
 
--- a byte list is the same as itself, and as no other
-pub equal-same : (a : List ℕ) → compareNames a a ≡ same
+equal-same : (a : List ℕ) → compareNames a a ≡ same
 unfolding compareNames
 equal-same [] = refl
 equal-same (x ∷ xs) = rw (le-ltb x x (omega arith)) (equal-same xs)
@@ -27,7 +26,7 @@ both-false true u r e = absurd (omega arith)
 both-false false true r e = absurd (omega arith)
 both-false false false r e = (refl, refl, e)
 
-pub same-equal : (a b : List ℕ) → compareNames a b ≡ same → a ≡ b
+same-equal : (a b : List ℕ) → compareNames a b ≡ same → a ≡ b
 unfolding compareNames
 same-equal [] [] e = refl
 same-equal [] (y ∷ ys) e = absurd (omega arith)
@@ -39,6 +38,10 @@ same-equal (x ∷ xs) (y ∷ ys) e =
     let heads : x ≡ y = omega arith in
     let tails : xs ≡ ys = same-equal xs ys (h .2) in
     cc
+
+-- a byte list is the same as itself, and as no other
+pub same-exactly : (a b : List ℕ) → (a ≡ b → compareNames a b ≡ same) × (compareNames a b ≡ same → a ≡ b)
+same-exactly a b = (λ e. rw (← e) (equal-same a), same-equal a b)
 
 turned-byte : (x y r s : ℕ) (t : Bool) → ltb x y ≡ t → (u : Bool) → ltb y x ≡ u → r + s ≡ 2
     → cond t before (cond u after r) + cond u before (cond t after s) ≡ 2
@@ -188,6 +191,11 @@ module _ (bs : List ℕ) (right : namesRight bs ≡ true) where
       let first = first-found (hasBytes bs name) (nameCount bs) n (cc) in
       (first .0, same-equal (nameOf bs n) name (eqb-true _ _ (first .1)))
 
+  -- so the answer is n exactly where name n has the bytes
+  pub find-exactly : (name : List ℕ) (n : ℕ) → n < nameCount bs
+      → (nameOf bs n ≡ name → findName bs name ≡ done (n ∷ [])) × (findName bs name ≡ done (n ∷ []) → nameOf bs n ≡ name)
+  find-exactly name n h = (λ e. rw (← e) (finds n h), λ e. found-holds name n e .1)
+
   -- the part that is shown of a name is found at its number
   pub shown-found : (n : ℕ) → n < nameCount bs → findName bs (showName bs n) ≡ done (n ∷ [])
   unfolding showName checkName nameCall allOf
@@ -213,7 +221,7 @@ none-needs-four bs z right =
 -- ---- examples, computed
 
 unfoldable pub calls : Unit {0}
-unfolding half nameOf allBelow allOf compareNames namesRight nameCall checkNames checkName countNames compareAt firstBelow findName showName
+unfolding u16At nameOf allBelow allOf compareNames namesRight nameCall checkNames checkName countNames compareAt firstBelow findName showName
 calls = tt
 
 -- the list `__functor`, `x`, `y`

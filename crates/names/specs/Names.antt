@@ -2,22 +2,21 @@
 -- list, and the call's numbers, to its answer. proofs/Laws.antt shows what follows. Assumes nothing.
 use Prim.Native.Nat.{ℕ, zero, suc, _+_, _-_, _*_}
 use mathlib.Core.List.{List, [], _∷_, map}
-use mathlib.Core.Option.{Option, none, some}
 use mathlib.Core.Bool.{Bool, true, false, cond, _&&_}
 use lib.ListN.{length, getD, take, drop}
 use lib.Dec.{eqb, leb, ltb}
 use Rattle.model.specs.Told.{Told, done, yes, more, failed, refused}
 
 -- "A name list is bytes: count (u16, little endian), count+1 offsets (u16) into the name bytes, then the bytes."
--- the u16 at a byte
-unfoldable pub half : List ℕ → ℕ → ℕ
-half bs at = getD bs at 0 + 256 * getD bs (at + 1) 0
+-- the u16, little endian, at a byte
+unfoldable pub u16At : List ℕ → ℕ → ℕ
+u16At bs at = getD bs at 0 + 256 * getD bs (at + 1) 0
 
 abbrev pub nameCount : List ℕ → ℕ
-nameCount bs = half bs 0
+nameCount bs = u16At bs 0
 
 abbrev pub nameOffset : List ℕ → ℕ → ℕ
-nameOffset bs i = half bs (2 + 2 * i)
+nameOffset bs i = u16At bs (2 + 2 * i)
 
 -- where the name bytes start: past the count and count+1 offsets
 abbrev pub bytesAt : List ℕ → ℕ
@@ -27,6 +26,7 @@ bytesAt bs = 4 + 2 * nameCount bs
 abbrev pub nameAt : List ℕ → ℕ → ℕ
 nameAt bs i = bytesAt bs + nameOffset bs i
 
+-- name i: the bytes from there to where the next starts
 unfoldable pub nameOf : List ℕ → ℕ → List ℕ
 nameOf bs i = take (nameAt bs (i + 1) - nameAt bs i) (drop (nameAt bs i) bs)
 
@@ -39,6 +39,7 @@ unfoldable pub allOf : List Bool → Bool
 allOf [] = true
 allOf (t ∷ ts) = t && allOf ts
 
+-- the count and the offsets are all there: at least 4 bytes
 abbrev pub headerWhole : List ℕ → Bool
 headerWhole bs = leb (bytesAt bs) (length bs)
 

@@ -1,14 +1,12 @@
 // Name lists, lent as bytes: the calls that check, count, show, compare and find names, each for any bytes.
 // specs/Names.antt says what a name list is and what each call answers; specs/Answers.antt what each answer tells.
-ghost use Rattle.names.specs.Laid.{Laid};
 use model::Refusal;
 use model::Reply;
 ghost use mathlib.Core.Path.{_≡_};
-ghost use mathlib.Core.Bool.{true};
-ghost use Prim.Native.Nat.{_+_, _*_, _-_, _<_, _≤_};
+ghost use Prim.Native.Nat.{_+_, _*_, _<_, _≤_};
 ghost use lib.ListN.{length};
 ghost use Rattle.model.specs.Told.{done, toldReply};
-ghost use Rattle.names.specs.Names.{half, nameCount, nameOffset, bytesAt, nameAt, headerWhole, firstZero, noneFalls, lastRight, fewNames, noneLong, ascendsAt, ascending, hasBytes, compareNames, nameOf, numberOf, namesRight, checkNames, checkName, countNames, compareAt, findName, showName, shownAt};
+ghost use Rattle.names.specs.Names.{u16At, nameCount, nameOffset, bytesAt, nameAt, headerWhole, firstZero, noneFalls, lastRight, fewNames, noneLong, ascendsAt, ascending, hasBytes, compareNames, nameOf, numberOf, namesRight, checkNames, checkName, countNames, compareAt, findName, showName, shownAt};
 ghost use Rattle.names.specs.Answers.{toldCounted, toldOrder, toldCompared, toldFound};
 ghost use Rattle.names.specs.Laid.{Laid};
 
@@ -46,9 +44,9 @@ fn wide(x: u8) -> usize
 }
 
 // The u16, little endian, at a byte of the list.
-fn half(list: &[u8], at: usize) -> usize
+fn u16_at(list: &[u8], at: usize) -> usize
     requires { ⌜ at + 2 ≤ length (now list) ⌝ }
-    ensures { λ r. ⌜ (r ≡ half (now (list .entry)) at) × (r < 65536) ⌝ }
+    ensures { λ r. ⌜ (r ≡ u16At (now (list .entry)) at) × (r < 65536) ⌝ }
 {
     wide(list[at]) + 256 * wide(list[at + 1])
 }
@@ -58,7 +56,7 @@ fn offset(list: &[u8], i: usize) -> usize
     requires { ⌜ 4 + 2 * i ≤ length (now list) ⌝ }
     ensures { λ r. ⌜ (r ≡ nameOffset (now (list .entry)) i) × (r < 65536) ⌝ }
 {
-    half(list, 2 + 2 * i)
+    u16_at(list, 2 + 2 * i)
 }
 
 // The number of names that the list says it has.
@@ -66,15 +64,15 @@ fn count_word(list: &[u8]) -> usize
     requires { ⌜ bytesAt (now list) ≤ length (now list) ⌝ }
     ensures { λ r. ⌜ (r ≡ nameCount (now (list .entry))) × (r < 65536) ⌝ }
 {
-    half(list, 0)
+    u16_at(list, 0)
 }
 
 // Where the name bytes start.
 fn bytes_at(list: &[u8]) -> usize
     requires { ⌜ 4 ≤ length (now list) ⌝ }
-    ensures { λ r. ⌜ (r ≡ bytesAt (now (list .entry))) × (r < 200000) ⌝ }
+    ensures { λ r. ⌜ (r ≡ bytesAt (now (list .entry))) × (r ≤ 4 + 2 * 65535) ⌝ }
 {
-    4 + 2 * half(list, 0)
+    4 + 2 * u16_at(list, 0)
 }
 
 // Where name i starts, and name i - 1 ends.

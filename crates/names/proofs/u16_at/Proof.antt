@@ -1,10 +1,10 @@
--- `names::half` meets its contract: two bytes read, the second worth 256. Assumes nothing.
+-- `names::u16_at` meets its contract: two bytes read, the second worth 256. Assumes nothing.
 use mathlib.Core.Path.{_≡_, refl, sym}
 use native.Mathlib.Omega.{arith}
 use borrow.Author.Needs.{needs}
-use Rattle.names.specs.Names.{half}
-use Rattle.names.proofs.half.Statement.{statement}
-use Rattle.names.proofs.half.Tie as tie
+use Rattle.names.specs.Names.{u16At}
+use Rattle.names.proofs.u16_at.Statement.{statement}
+use Rattle.names.proofs.u16_at.Tie as tie
 
 shared-slice-read-wide : tie.Need-shared-slice-read-wide
 shared-slice-read-wide c = search needs
@@ -28,11 +28,11 @@ add-result : tie.Need-add-result
 add-result c = search needs
 
 returns : tie.Need-returns
-unfolding half
+unfolding u16At
 returns c = (omega arith, omega arith)
 
-pub half-spec : {M : Type 1} → statement M
-half-spec =
+pub u16-at-spec : {M : Type 1} → statement M
+u16-at-spec =
     tie.close
     (tie.spec
     shared-slice-read-wide
