@@ -6,7 +6,7 @@ use mathlib.Core.List.{List, []}
 use mathlib.Core.Bool.{Bool, true, false, cond, _&&_}
 use lib.Dec.{ltb}
 use borrow.Author.Tests.{ltb-true}
-use Rattle.model.specs.Told.{Told, done, refused, toldRefusal}
+use Rattle.model.specs.Told.{done, refused, toldRefusal}
 use Rattle.model.specs.declared.Refusal.{Refusal}
 use Rattle.model.specs.declared.Refusal.the-variants as R
 use Rattle.names.specs.Names.{nameCount, allOf, namesRight, nameCall, checkName, accepted}

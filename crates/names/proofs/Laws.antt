@@ -3,14 +3,14 @@ use Prim.Native.Nat.{ℕ, zero, suc, _+_, _-_, _≤_, _<_}
 use native.Mathlib.Nat.{eq-or-lt-of-le}
 use native.Mathlib.Numerals.{add-one}
 use native.Mathlib.Omega.{arith}
-use mathlib.Core.Path.{_≡_, refl, sym, ap, _∙_}
-use mathlib.Core.List.{List, [], _∷_, map}
+use mathlib.Core.Path.{_≡_, refl, sym, _∙_}
+use mathlib.Core.List.{List, [], _∷_, _++_, map}
 use mathlib.Core.Bool.{Bool, true, false, cond}
 use mathlib.Core.Logic.{_⊎_, inl, inr, ⊎-elim}
-use lib.ListN.{length, getD}
-use lib.Dec.{eqb, leb, ltb}
+use lib.ListN.{length, replicate}
+use lib.Dec.{ltb}
 use borrow.Author.Tests.{ltb-true, ltb-false, lt-ltb, le-ltb, lt-leb, eqb-true, eq-eqb, ne-eqb, leb-true}
-use Rattle.model.specs.Told.{Told, done, refused}
+use Rattle.model.specs.Told.{done, refused}
 use Rattle.names.specs.Names.{u16At, nameCount, nameOffset, bytesAt, nameOf, allBelow, allOf, before, same, after, compareNames, ascendsAt, tests, namesRight, nameCall, checkNames, checkName, countNames, compareAt, firstBelow, hasBytes, numberOf, findName, showName}
 use Rattle.names.proofs.All.{all-at, all-of-at, first-hit, first-nowhere, first-found}
 
@@ -250,16 +250,42 @@ pub bench-refuses : (checkName bench 3 ≡ refused 2 []) × (showName bench 3 �
 unfolding calls
 bench-refuses = (refl, refl)
 
-abbrev smallLists : List (List ℕ)
-smallLists =
+-- one name of n bytes, with its end as a u16
+abbrev oneName : ℕ → ℕ → ℕ → List ℕ
+oneName low high n = (1 ∷ 0 ∷ 0 ∷ 0 ∷ low ∷ high ∷ []) ++ replicate n 97
+
+abbrev rightLists : List (List ℕ)
+rightLists =
+    -- no names; one empty name; a proper prefix first; bytes are unsigned; a name of 255 bytes
     (0 ∷ 0 ∷ 0 ∷ 0 ∷ [])
-    ∷ (0 ∷ 0 ∷ 0 ∷ 0 ∷ 97 ∷ [])
-    ∷ (2 ∷ 0 ∷ 0 ∷ 0 ∷ 2 ∷ 0 ∷ 1 ∷ 0 ∷ 97 ∷ [])
-    ∷ (2 ∷ 0 ∷ 0 ∷ 0 ∷ 1 ∷ 0 ∷ 2 ∷ 0 ∷ 97 ∷ 97 ∷ [])
-    ∷ (2 ∷ 0 ∷ 0 ∷ 0 ∷ 1 ∷ 0 ∷ 2 ∷ 0 ∷ 98 ∷ 97 ∷ [])
+    ∷ (1 ∷ 0 ∷ 0 ∷ 0 ∷ 0 ∷ 0 ∷ [])
+    ∷ (2 ∷ 0 ∷ 0 ∷ 0 ∷ 1 ∷ 0 ∷ 3 ∷ 0 ∷ 97 ∷ 97 ∷ 98 ∷ [])
+    ∷ (2 ∷ 0 ∷ 0 ∷ 0 ∷ 1 ∷ 0 ∷ 2 ∷ 0 ∷ 127 ∷ 128 ∷ [])
+    ∷ oneName 255 0 255
     ∷ []
 
--- no names in 4 bytes; a fifth byte, a falling offset, two names alike, and names that fall are malformed
-pub small-lists : map checkNames smallLists ≡ done [] ∷ refused 12 [] ∷ refused 12 [] ∷ refused 12 [] ∷ refused 12 [] ∷ []
+abbrev wrongLists : List (List ℕ)
+wrongLists =
+    -- no bytes; a byte too few; a byte too many; offsets that are not all there
+    []
+    ∷ (0 ∷ 0 ∷ 0 ∷ [])
+    ∷ (0 ∷ 0 ∷ 0 ∷ 0 ∷ 97 ∷ [])
+    ∷ (1 ∷ 0 ∷ 0 ∷ 0 ∷ [])
+    -- the first offset not 0; one that falls; the last not the number of bytes left
+    ∷ (1 ∷ 0 ∷ 1 ∷ 0 ∷ 2 ∷ 0 ∷ 97 ∷ 98 ∷ [])
+    ∷ (2 ∷ 0 ∷ 0 ∷ 0 ∷ 2 ∷ 0 ∷ 1 ∷ 0 ∷ 97 ∷ [])
+    ∷ (1 ∷ 0 ∷ 0 ∷ 0 ∷ 1 ∷ 0 ∷ 97 ∷ 98 ∷ [])
+    -- a name of 256 bytes; two names alike; names that fall; a proper prefix last
+    ∷ oneName 0 1 256
+    ∷ (2 ∷ 0 ∷ 0 ∷ 0 ∷ 1 ∷ 0 ∷ 2 ∷ 0 ∷ 97 ∷ 97 ∷ [])
+    ∷ (2 ∷ 0 ∷ 0 ∷ 0 ∷ 1 ∷ 0 ∷ 2 ∷ 0 ∷ 98 ∷ 97 ∷ [])
+    ∷ (2 ∷ 0 ∷ 0 ∷ 0 ∷ 2 ∷ 0 ∷ 3 ∷ 0 ∷ 97 ∷ 98 ∷ 97 ∷ [])
+    ∷ []
+
+pub right-lists : map checkNames rightLists ≡ map (λ _. done []) rightLists
 unfolding calls
-small-lists = refl
+right-lists = refl
+
+pub wrong-lists : map checkNames wrongLists ≡ map (λ _. refused 12 []) wrongLists
+unfolding calls
+wrong-lists = refl

@@ -1,7 +1,7 @@
 -- Where names lie: a name's part of the list, and a list whose offsets are right has each name inside it. Assumes nothing.
 use Prim.Native.Nat.{ℕ, zero, suc, _+_, _-_, _≤_, _<_}
 use native.Mathlib.Omega.{arith}
-use mathlib.Core.Path.{_≡_, refl}
+use mathlib.Core.Path.{_≡_}
 use mathlib.Core.List.{List}
 use mathlib.Core.Bool.{true}
 use lib.ListN.{length, getD, take, drop}

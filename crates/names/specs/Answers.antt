@@ -1,7 +1,7 @@
 -- What each answer of a name call tells: document 01's number for it, and the values that go with it. proofs/OneToOne.antt
 -- shows that no two answers tell the same. Assumes nothing.
 use Prim.Native.Nat.{ℕ}
-use mathlib.Core.List.{List, [], _∷_}
+use mathlib.Core.List.{[], _∷_}
 use Rattle.model.specs.Told.{Told, done, toldRefusal}
 use Rattle.names.specs.Names.{before, same, after}
 use Rattle.names.specs.declared.Counted.{Counted}

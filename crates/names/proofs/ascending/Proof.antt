@@ -1,5 +1,5 @@
 -- `names::ascending` meets its contract. The loop's invariant: each of the first i names comes before the next. Assumes nothing.
-use Prim.Native.Nat.{_+_, _≤_, _-_}
+use Prim.Native.Nat.{_≤_, _-_}
 use mathlib.Core.Path.{_≡_, sym, _∙_}
 use mathlib.Core.Bool.{true}
 use native.Mathlib.Omega.{arith}

@@ -1,5 +1,4 @@
 -- `names::check_name` meets its contract. Assumes nothing.
-use mathlib.Core.Path.{sym}
 use borrow.Author.Tests.{lt-ltb, le-ltb}
 use Rattle.names.specs.Names.{nameCount, allOf, nameCall, checkName}
 use Rattle.names.proofs.Laying.{right-laid}

@@ -1,14 +1,12 @@
 -- `names::show` meets its contract: what `check_name` accepts is the part between two offsets, and nothing else is shown.
 -- Assumes nothing.
-use Prim.Native.Nat.{_+_, _≤_}
-use mathlib.Core.Path.{_≡_, refl, sym, ap, _∙_}
+use mathlib.Core.Path.{_≡_, sym, ap, _∙_}
 use mathlib.Core.List.{[]}
-use mathlib.Core.Bool.{true, false}
-use lib.ListN.{length}
+use mathlib.Core.Bool.{false}
 use Rattle.model.specs.Told.{done, toldReply}
-use Rattle.names.specs.Names.{nameAt, accepted, checkName, showName, shownAt}
+use Rattle.names.specs.Names.{accepted, checkName, showName, shownAt}
 use Rattle.names.proofs.Laying.{name-part, right-laid}
-use Rattle.names.proofs.Calling.{Named, named, not-accepted}
+use Rattle.names.proofs.Calling.{named, not-accepted}
 use borrow.Author.Needs.{needs}
 use Rattle.names.proofs.show.Statement.{statement}
 use Rattle.names.proofs.show.Tie as tie

@@ -1,5 +1,4 @@
 -- `names::u16_at` meets its contract: two bytes read, the second worth 256. Assumes nothing.
-use mathlib.Core.Path.{_≡_, refl, sym}
 use native.Mathlib.Omega.{arith}
 use borrow.Author.Needs.{needs}
 use Rattle.names.specs.Names.{u16At}
