@@ -1,5 +1,6 @@
 pub mod Tests
 pub mod Entries
+pub mod Undone
 pub mod Negation
 pub mod Growing
 pub mod Stores
