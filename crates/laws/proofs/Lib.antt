@@ -4,6 +4,8 @@ pub mod Undone
 pub mod Negation
 pub mod Growing
 pub mod Stores
+pub mod Components
 pub mod Arms
+pub mod Effects
 pub mod RuleGood
 pub mod StepSound

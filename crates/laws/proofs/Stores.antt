@@ -27,6 +27,10 @@ pub by-test : {A : Type 0} (P : A → Type 0) (t : Bool) {x y : A} → (T t → 
 by-test P true f g = f tt
 by-test P false f g = g tt
 
+pub by-tests : {A B : Type 0} (P : A → B → Type 0) (t : Bool) {x y : A} {v w : B} → (T t → P x v) → (T (not t) → P y w) → P (cond t x y) (cond t v w)
+by-tests P true f g = f tt
+by-tests P false f g = g tt
+
 -- u is good, and s with something appended
 pub record Leads (s u : Store) : Type 0 where
   pub good : Good u
