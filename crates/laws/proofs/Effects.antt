@@ -1,15 +1,15 @@
 -- What a pair's rule gives: a good store that is only appended to, consequences that are entries, and how many at most.
 -- Assumes nothing.
-use Prim.Native.Nat.{ℕ, zero, suc, _+_, _≤_, _<_}
+use Prim.Native.Nat.{ℕ, suc, _≤_, _<_}
 use native.Mathlib.Omega.{arith}
 use mathlib.Core.Path.{_≡_, refl, ap, _∙_}
 use mathlib.Core.List.{List, [], _∷_, _++_, map}
 use mathlib.Core.Option.{Option, none, some}
-use mathlib.Core.Bool.{Bool, true, false, not, cond, _&&_, _||_}
+use mathlib.Core.Bool.{Bool, true, false, not, cond, _&&_}
 use lib.ListN.{length, length-map}
 use lib.Dec.{T, eqb, ltb, T-not}
 use Rattle.model.specs.Lists.{isZero, all}
-use Rattle.model.specs.Format.{variable, list, lambda, attrset, named, neg, inter, union, lower, upper}
+use Rattle.model.specs.Format.{variable, lambda, attrset, lower, upper}
 use Rattle.model.specs.Table.{Entry, Field, Bound, Pair, _⊑_, Store, entryAt, is, isAt, marked, isOpen, hasDynamic, withEntries, withBounds}
 use Rattle.model.specs.Making.{Making, newEntry, makeNeg, markEntry, boundsIn, repeats, addBound}
 use Rattle.model.specs.Shapes.{fieldsOf, fieldNamed, functorOf, disjoint, compatible, disjointFromSup}
@@ -100,10 +100,11 @@ module _ (s : Store) (good : Good s) where
   -- an entry is made
   made-good : (c n : ℕ) (m : Making) → Known s c → Grown (s .entries) (s .fields) (s .names) n m → EffectGood s 2 (followMade s c m)
   unfolding followMade withEntries
-  made-good c n m lt k =
-      (entries-lead s good (m .after) (k .good) (k .kept) (k .same),
-      one-more (m .after) (c ⊑ m .number) [] (pair-of (m .after) c (m .number) (omega (arith, k .least)) (k .number)) (all-empty (pairRight (m .after))),
-      omega arith)
+  made-good c n m lt k = (
+    entries-lead s good (m .after) (k .good) (k .kept) (k .same),
+    one-more (m .after) (c ⊑ m .number) [] (pair-of (m .after) c (m .number) (omega (arith, k .least)) (k .number)) (all-empty (pairRight (m .after))),
+    omega arith,
+  )
 
   module _ (sub sup : ℕ) (lsub : Known s sub) (lsup : Known s sup) where
     attrsets-good : at s sub .kind ≡ attrset → at s sup .kind ≡ attrset → EffectGood s (suc (length (fieldsOf (s .fields) (at s sup)))) (attrsets s (at s sub) (at s sup))
@@ -118,10 +119,11 @@ module _ (s : Store) (good : Good s) where
         last : T (all (pairRight (s .entries)) (dynamics (at s sub) (at s sup))) × (length (dynamics (at s sub) (at s sup)) ≤ 1)
         last =
             by-test (λ ps. T (all (pairRight (s .entries)) ps) × (length ps ≤ 1)) (hasDynamic (at s sub) && hasDynamic (at s sup))
-            (λ h.
-            (one (at s sub .z) (at s sup .z) (z-of s good sub lsub ka (first (hasDynamic (at s sub)) (hasDynamic (at s sup)) h))
-            (z-of s good sup lsup kb (second (hasDynamic (at s sub)) (hasDynamic (at s sup)) h)) .1,
-            omega arith))
+            (λ h. (
+              one (at s sub .z) (at s sup .z) (z-of s good sub lsub ka (first (hasDynamic (at s sub)) (hasDynamic (at s sup)) h))
+                  (z-of s good sup lsup kb (second (hasDynamic (at s sub)) (hasDynamic (at s sup)) h)) .1,
+              omega arith,
+            ))
             (λ h. (all-empty (pairRight (s .entries)), omega arith))
 
     -- an inter on the left
@@ -194,7 +196,7 @@ module _ (s : Store) (good : Good s) where
         two (at s sup .x) (at s sub .x) (at s sub .y) (at s sup .y)
         (x-of s good sup lsup (rw (h .1) tt)) (x-of s good sub lsub (rw (h .0) tt)) (y-of s good sub lsub (rw (h .0) tt)) (y-of s good sup lsup (rw (h .1) tt))
     arm-good no-attrsets lists h = one (at s sub .x) (at s sup .x) (x-of s good sub lsub (rw (h .0) tt)) (x-of s good sup lsup (rw (h .1) tt))
-    arm-good no-attrsets bothAttrsets h = 
+    arm-good no-attrsets bothAttrsets h =
         absurd (no-attrsets (both (is attrset (at s sub)) (is attrset (at s sup)) (of-eq (at s sub .kind) attrset (h .0)) (of-eq (at s sup .kind) attrset (h .1))))
     arm-good no-attrsets nothing h = no-more
     arm-good no-attrsets negs h = one (at s sup .x) (at s sub .x) (x-of s good sup lsup (rw (h .1) tt)) (x-of s good sub lsub (rw (h .0) tt))

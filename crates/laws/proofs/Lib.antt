@@ -8,4 +8,5 @@ pub mod Components
 pub mod Arms
 pub mod Effects
 pub mod RuleGood
+pub mod Consequences
 pub mod StepSound
