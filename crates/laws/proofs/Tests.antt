@@ -61,7 +61,6 @@ pub data Passed : List Bool → Type 0 where
   _and_ : {b : Bool} {bs : List Bool} → T b → Passed bs → Passed (b ∷ bs)
 
 infixr 30 _and_
-
 pub all-passed : (l : List Bool) → Passed l → T (allOf l)
 unfolding allOf
 all-passed [] none = tt

@@ -7,7 +7,7 @@ use lib.ListN.{length, drop, replicate}
 use Rattle.model.specs.Format.{variable, primitive, lambda, neg, inter, union, lower, upper, wordEnd}
 use Rattle.model.specs.Table.{Entry, Bound, Pair, _⊑_, Break, Capacities, Table}
 use Rattle.model.specs.Image.{imageLength, table}
-use Rattle.model.specs.Calls.{Reply, Call, starts, makesVariable, makesPrimitive, makesLambda, makesAttrset, makesNeg, makesInter, makesUnion, putsBound, asks, asksEqual, works, abandons, perform}
+use Rattle.model.specs.Calls.{Reply, Call, makesVariable, makesPrimitive, makesLambda, makesAttrset, makesNeg, makesInter, makesUnion, putsBound, asks, asksEqual, works, abandons, start, perform}
 use Rattle.model.specs.Told.{Told, done, yes, more, failed, refused}
 use Rattle.model.specs.declared.Dynamic.the-variants.{Absent}
 
@@ -58,7 +58,7 @@ runAll n (c ∷ cs) l ws = let r = perform c ws in runAll n cs (l ++ (saidBy r �
 
 -- "Each line starts afresh": the table is made by calls, in words of any content. "Names as above, word 8 is 1."
 unfoldable pub madeWords : Capacities → List Call → List ℕ
-madeWords c makes = afterAll (starts 3 1 c ∷ makes) (replicate (imageLength c) 7)
+madeWords c makes = afterAll makes (start 3 1 c (replicate (imageLength c) 7) .words)
 
 unfoldable pub runCase : Case → Seen
 runCase c = runAll (c .from) (c .calls) [] (madeWords (c .capacities) (c .makes))

@@ -5,7 +5,7 @@ use mathlib.Core.List.{List, [], _∷_, _++_}
 use mathlib.Core.Bool.{Bool, true, false, not, cond, _&&_, _||_}
 use lib.ListN.{length, take, drop}
 use lib.Dec.{eqb, leb, ltb}
-use Rattle.instalments.specs.Machine.{Room, enough, lacks, Result, yes-in, fail-in, more-at, Roomed, answered, refused-in} 
+use Rattle.instalments.specs.Machine.{Room, enough, lacks, Result, yes-in, fail-in, more-at, Roomed, answered, refused-in}
 use Rattle.instalments.specs.Machine as machine
 use Rattle.model.specs.Lists.{isZero, allOf, all, readMany}
 use Rattle.model.specs.Format.{wordEnd, fieldWidth, isRegion, widthOf, unbroken, entriesMost, fieldsMost, boundsMost, visitedMost, pendingMost, equalsMost, namesMost}
@@ -258,9 +258,8 @@ readDisjointTurn a b t =
     whenNumbered (isEntry es a && isEntry es b)
     (tell (toldDisjointness (cond (disjoint (t .store) (entryAt es a) (entryAt es b)) J.Disjoint J.NotDisjoint)))
 
--- Every call, with its arguments.
+-- Every call on an image, with its arguments: all but start.
 pub data Call : Type 0 where
-  starts : (names functor : ℕ) → Capacities → Call
   makesVariable : Call
   makesPrimitive : ℕ → Call
   makesList : ℕ → Call
@@ -282,31 +281,33 @@ pub data Call : Type 0 where
   readsRecord : (region record-number : ℕ) → Call
   readsDisjoint : (left right : ℕ) → Call
 
+unfoldable pub turnOf : Call → List ℕ → Table → Turn
+turnOf makesVariable ws t = variableTurn t
+turnOf (makesPrimitive p) ws t = primitiveTurn p t
+turnOf (makesList x) ws t = oneTurn list x 0 t
+turnOf (makesLambda p b) ws t = twoTurn lambda p b t
+turnOf (makesAttrset l wide d) ws t = attrsetTurn l wide d t
+turnOf (makesNamed x label) ws t = oneTurn named x label t
+turnOf (makesNeg n) ws t = negTurn n t
+turnOf (makesInter a b) ws t = twoTurn inter a b t
+turnOf (makesUnion a b) ws t = twoTurn union a b t
+turnOf (marks n) ws t = markTurn n t
+turnOf (putsBound v side b) ws t = putBoundTurn v side b t
+turnOf enters ws t = enterTurn t
+turnOf exits ws t = exitTurn t
+turnOf (setsLevel v l) ws t = setLevelTurn v l t
+turnOf (asks held a b) ws t = askTurn held a b t
+turnOf (asksEqual held a b) ws t = askEqualTurn held a b t
+turnOf (works budget) ws t = workTurn budget t
+turnOf abandons ws t = abandonTurn t
+turnOf (readsEntry n) ws t = readEntryTurn n t
+turnOf (readsRecord k i) ws t = readRecordTurn k i ws
+turnOf (readsDisjoint a b) ws t = readDisjointTurn a b t
+
 unfoldable pub perform : Call → List ℕ → Reply
-perform (starts names functor c) ws = start names functor c ws
-perform makesVariable ws = onTable variableTurn ws
-perform (makesPrimitive p) ws = onTable (primitiveTurn p) ws
-perform (makesList x) ws = onTable (oneTurn list x 0) ws
-perform (makesLambda p b) ws = onTable (twoTurn lambda p b) ws
-perform (makesAttrset l wide d) ws = onTable (attrsetTurn l wide d) ws
-perform (makesNamed x label) ws = onTable (oneTurn named x label) ws
-perform (makesNeg n) ws = onTable (negTurn n) ws
-perform (makesInter a b) ws = onTable (twoTurn inter a b) ws
-perform (makesUnion a b) ws = onTable (twoTurn union a b) ws
-perform (marks n) ws = onTable (markTurn n) ws
-perform (putsBound v side b) ws = onTable (putBoundTurn v side b) ws
-perform enters ws = onTable enterTurn ws
-perform exits ws = onTable exitTurn ws
-perform (setsLevel v l) ws = onTable (setLevelTurn v l) ws
-perform (asks held a b) ws = onTable (askTurn held a b) ws
-perform (asksEqual held a b) ws = onTable (askEqualTurn held a b) ws
-perform (works budget) ws = onTable (workTurn budget) ws
-perform abandons ws = onTable abandonTurn ws
-perform (readsEntry n) ws = onTable (readEntryTurn n) ws
-perform (readsRecord k i) ws = onTable (λ t. readRecordTurn k i ws) ws
-perform (readsDisjoint a b) ws = onTable (readDisjointTurn a b) ws
+perform c ws = onTable (turnOf c ws) ws
 
 -- opens all that stands above
 unfoldable pub calls : Unit {0}
-unfolding replyOf onTable whenIdle whenAsked whenNumbered whenListed whenVariable leaveBy leaveIfRoom emptyTable capacitiesRight start madeTurn newTurn variableTurn primitiveTurn oneTurn twoTurn negTurn fieldList fieldsListed dynamicKnown dynamicType dynamicBit newAttrset attrsetTurn markTurn putBoundTurn whenLevel atLevel enterTurn exitTurn setLevelTurn brokenBy question askTurn equalled askEqualTurn workedTurn workTurn abandonTurn dynamicOf readOut readEntryTurn readRecordTurn readDisjointTurn perform
+unfolding replyOf onTable whenIdle whenAsked whenNumbered whenListed whenVariable leaveBy leaveIfRoom emptyTable capacitiesRight start madeTurn newTurn variableTurn primitiveTurn oneTurn twoTurn negTurn fieldList fieldsListed dynamicKnown dynamicType dynamicBit newAttrset attrsetTurn markTurn putBoundTurn whenLevel atLevel enterTurn exitTurn setLevelTurn brokenBy question askTurn equalled askEqualTurn workedTurn workTurn abandonTurn dynamicOf readOut readEntryTurn readRecordTurn readDisjointTurn turnOf perform
 calls = tt

@@ -1,0 +1,5 @@
+pub mod Laws
+pub mod OneToOne
+pub mod Settled
+pub mod Oracle
+pub mod Worked
