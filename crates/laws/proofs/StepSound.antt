@@ -110,26 +110,20 @@ SoundSince s₀ s ps = SoundStore s × PendingRight s ps × Appends s₀ s
 abbrev pub FailedSince : Store → Failure → Store → Type 0
 FailedSince s₀ f s = SoundStore s × Appends s₀ s
 
-module _ (s₀ s u : Store) (before : List Pair) (p : Pair) (since : SoundSince s₀ s (before ++ (p ∷ []))) (e : room s p before ≡ enough) where
-  step : StepSound s before (rule s p)
-  step = step-sound s p before (since .0) (since .1) e
-
-  goes-since : (qs : List Pair) → rule s p ≡ goes u qs → SoundSince s₀ u (before ++ reverse qs)
-  goes-since qs g = let k : StepSound s before (goes u qs) = rw g at step in (k .0, k .1, appends-trans (since .2) (k .2))
-
-  fails-since : (f : Failure) → rule s p ≡ fails f u → FailedSince s₀ f u
-  fails-since f g = let k : StepSound s before (fails f u) = rw g at step in (k .0, appends-trans (since .2) (k .1))
-
 -- in the shape that `work-kept` asks
 pub keeps-since : (s₀ s u : Store) (before qs : List Pair) (p : Pair) → SoundSince s₀ s (before ++ (p ∷ [])) → room s p before ≡ enough → rule s p ≡ goes u qs
     → SoundSince s₀ u (before ++ reverse qs)
-keeps-since s₀ s u before qs p h e = goes-since s₀ s u before p h e qs
+keeps-since s₀ s u before qs p h e g =
+    let k : StepSound s before (goes u qs) = rw g at (step-sound s p before (h .0) (h .1) e) in
+    (k .0, k .1, appends-trans (h .2) (k .2))
 
 pub leads-since : (s₀ s u : Store) (before : List Pair) (p : Pair) (f : Failure) → SoundSince s₀ s (before ++ (p ∷ [])) → room s p before ≡ enough → rule s p ≡ fails f u
     → FailedSince s₀ f u
-leads-since s₀ s u before p f h e = fails-since s₀ s u before p h e f
+leads-since s₀ s u before p f h e g =
+    let k : StepSound s before (fails f u) = rw g at (step-sound s p before (h .0) (h .1) e) in
+    (k .0, appends-trans (h .2) (k .1))
 
--- the same of one step alone
+-- the same with no growth
 abbrev pub SoundAt : Store → List Pair → Type 0
 SoundAt s ps = SoundStore s × PendingRight s ps
 
