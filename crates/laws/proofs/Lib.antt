@@ -14,3 +14,4 @@ pub mod Effects
 pub mod RuleGood
 pub mod Consequences
 pub mod StepSound
+pub mod Turns
