@@ -8,8 +8,11 @@ pub mod Undone
 pub mod Negation
 pub mod Growing
 pub mod Stores
+pub mod Components
 pub mod Arms
+pub mod Effects
 pub mod RuleGood
+pub mod Consequences
 pub mod StepSound
 pub mod Turns
 pub mod Calls

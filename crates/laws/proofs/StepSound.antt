@@ -1,23 +1,23 @@
 -- A step that has room leaves a sound store sound, and so does an instalment, which only appends to it. Assumes nothing.
-use Prim.Native.Nat.{ℕ, zero, suc, _+_, _≤_, _<_}
+use Prim.Native.Nat.{ℕ, zero, suc, _+_, _≤_}
 use native.Mathlib.Omega.{arith}
-use mathlib.Core.Path.{_≡_, refl, sym, _∙_}
+use mathlib.Core.Path.{_≡_, refl}
 use mathlib.Core.List.{List, [], _∷_, _++_, reverse, reverseAux}
 use mathlib.Core.Bool.{Bool, true, false, cond, _||_}
 use lib.ListN.{length, length-append, length-reverse}
 use lib.Dec.{T, ltb}
 use borrow.Author.Tests.{ltb-false}
-use Rattle.instalments.specs.Machine.{Outcome, fails, goes, Room, enough, lacks, work}
-use Rattle.instalments.proofs.Kept.{Kept, work-kept}
+use Rattle.instalments.specs.Machine.{Outcome, fails, goes, Room, enough, lacks, work, instalments}
+use Rattle.instalments.proofs.Kept.{Kept, work-kept, instalments-kept}
 use Rattle.model.specs.Lists.{all, any}
 use Rattle.model.specs.Format.{spreadMost}
-use Rattle.model.specs.Table.{Entry, Pair, Capacities, Store}
+use Rattle.model.specs.Table.{Entry, Pair, Store}
 use Rattle.model.specs.Making.{tooDeep}
 use Rattle.model.specs.Formed.{isEntry, pairRight}
 use Rattle.model.specs.Rules.{rule}
 use Rattle.model.specs.Room.{fitting, roomFor, room}
 use Rattle.model.specs.declared.Failure.{Failure}
-use Rattle.laws.specs.Good.{Good, Small, Held, Shallow, SoundStore, PendingRight}
+use Rattle.laws.specs.Good.{Good, Small, Shallow, SoundStore, PendingRight}
 use Rattle.laws.specs.Growth.{Appends}
 use Rattle.laws.proofs.Tests.{both, first, second, all-append, all-left, all-right, all-empty, lt-of}
 use Rattle.laws.proofs.Entries.{pairs-more}
@@ -49,20 +49,21 @@ fitting-sound u n good small e =
     let visited = passes (ltb (c .visited) (length (u .visited))) _ _ (bounds .1) in
     let pending = passes (ltb (c .pending) n) _ _ (visited .1) in
     let equals = passes (ltb (c .equals) (length (u .equals))) _ _ (pending .1) in
-    let depth = passes (tooDeep (u .entries)) _ _ (equals .1) in
-    (record {
-      good = good;
-      small = small;
-      held = record {
-        entries = ltb-false (c .entries) (length (u .entries)) (entries .0);
-        fields = ltb-false (c .fields) (length (u .fields)) (fields .0);
-        bounds = ltb-false (c .bounds) (length (u .bounds)) (bounds .0);
-        visited = ltb-false (c .visited) (length (u .visited)) (visited .0);
-        equals = ltb-false (c .equals) (length (u .equals)) (equals .0);
-      };
-      shallow = not-deep (u .entries) (depth .0);
-    },
-    ltb-false (c .pending) n (pending .0))
+    let depth = passes (tooDeep (u .entries)) _ _ (equals .1) in (
+      record {
+        good = good;
+        small = small;
+        held = record {
+          entries = ltb-false (c .entries) (length (u .entries)) (entries .0);
+          fields = ltb-false (c .fields) (length (u .fields)) (fields .0);
+          bounds = ltb-false (c .bounds) (length (u .bounds)) (bounds .0);
+          visited = ltb-false (c .visited) (length (u .visited)) (visited .0);
+          equals = ltb-false (c .equals) (length (u .equals)) (equals .0);
+        };
+        shallow = not-deep (u .entries) (depth .0);
+      },
+      ltb-false (c .pending) n (pending .0),
+    )
 
 -- the consequences go onto the pending list last first
 all-reverse : {A : Type 0} (f : A → Bool) (l r : List A) → T (all f l) → T (all f r) → T (all f (reverseAux l r))
@@ -83,15 +84,16 @@ module _ (s : Store) (p : Pair) (before : List Pair) (sound : SoundStore s) (pen
   outcome-sound (fails f u) g e = (fitting-sound u (length before) (g .0) (small-after u (g .1)) e .0, g .1)
   outcome-sound (goes u qs) g e =
       let fits = fitting-sound u (length before + length qs) (g .0) (small-after u (g .2)) e in
-      let old = all-left (pairRight (s .entries)) before (p ∷ []) (pending .right) in
-      (fits .0,
-      record {
-        held = simp (length-append, length-reverse) (fits .1);
-        right =
-          all-append (pairRight (u .entries)) before (reverse qs) (pairs-more (s .entries) (u .entries) before (g .2 .grows .entries .longer) old)
-          (all-reverse (pairRight (u .entries)) qs [] (g .1) (all-empty (pairRight (u .entries))));
-      },
-      g .2)
+      let old = all-left (pairRight (s .entries)) before (p ∷ []) (pending .right) in (
+        fits .0,
+        record {
+          held = simp (length-append, length-reverse) (fits .1);
+          right =
+              all-append (pairRight (u .entries)) before (reverse qs) (pairs-more (s .entries) (u .entries) before (g .2 .grows .entries .longer) old)
+              (all-reverse (pairRight (u .entries)) qs [] (g .1) (all-empty (pairRight (u .entries))));
+        },
+        g .2,
+      )
 
   pub step-sound : room s p before ≡ enough → StepSound s before (rule s p)
   unfolding room pairRight isEntry all
@@ -108,25 +110,35 @@ SoundSince s₀ s ps = SoundStore s × PendingRight s ps × Appends s₀ s
 abbrev pub FailedSince : Store → Failure → Store → Type 0
 FailedSince s₀ f s = SoundStore s × Appends s₀ s
 
-module _ (s₀ s u : Store) (before : List Pair) (p : Pair) (since : SoundSince s₀ s (before ++ (p ∷ []))) (e : room s p before ≡ enough) where
-  step : StepSound s before (rule s p)
-  step = step-sound s p before (since .0) (since .1) e
-
-  goes-since : (qs : List Pair) → rule s p ≡ goes u qs → SoundSince s₀ u (before ++ reverse qs)
-  goes-since qs g = let k : StepSound s before (goes u qs) = rw g at step in (k .0, k .1, appends-trans (since .2) (k .2))
-
-  fails-since : (f : Failure) → rule s p ≡ fails f u → FailedSince s₀ f u
-  fails-since f g = let k : StepSound s before (fails f u) = rw g at step in (k .0, appends-trans (since .2) (k .1))
-
 -- in the shape that `work-kept` asks
 pub keeps-since : (s₀ s u : Store) (before qs : List Pair) (p : Pair) → SoundSince s₀ s (before ++ (p ∷ [])) → room s p before ≡ enough → rule s p ≡ goes u qs
     → SoundSince s₀ u (before ++ reverse qs)
-keeps-since s₀ s u before qs p h e = goes-since s₀ s u before p h e qs
+keeps-since s₀ s u before qs p h e g =
+    let k : StepSound s before (goes u qs) = rw g at (step-sound s p before (h .0) (h .1) e) in
+    (k .0, k .1, appends-trans (h .2) (k .2))
 
 pub leads-since : (s₀ s u : Store) (before : List Pair) (p : Pair) (f : Failure) → SoundSince s₀ s (before ++ (p ∷ [])) → room s p before ≡ enough → rule s p ≡ fails f u
     → FailedSince s₀ f u
-leads-since s₀ s u before p f h e = fails-since s₀ s u before p h e f
+leads-since s₀ s u before p f h e g =
+    let k : StepSound s before (fails f u) = rw g at (step-sound s p before (h .0) (h .1) e) in
+    (k .0, appends-trans (h .2) (k .1))
 
-module _ (s : Store) (ps : List Pair) (sound : SoundStore s) (pending : PendingRight s ps) where
-  pub work-sound : (n : ℕ) → Kept (SoundSince s) (FailedSince s) (work rule room n s ps)
-  work-sound n = work-kept rule room (SoundSince s) (FailedSince s) (keeps-since s) (leads-since s) n s ps (sound, pending, appends-refl s)
+-- the same with no growth
+abbrev pub SoundAt : Store → List Pair → Type 0
+SoundAt s ps = SoundStore s × PendingRight s ps
+
+pub keeps-sound : (s u : Store) (before qs : List Pair) (p : Pair) → SoundAt s (before ++ (p ∷ [])) → room s p before ≡ enough → rule s p ≡ goes u qs
+    → SoundAt u (before ++ reverse qs)
+keeps-sound s u before qs p h e g = let k = keeps-since s s u before qs p (h .0, h .1, appends-refl s) e g in (k .0, k .1)
+
+pub leads-sound : (s u : Store) (before : List Pair) (p : Pair) (f : Failure) → SoundAt s (before ++ (p ∷ [])) → room s p before ≡ enough → rule s p ≡ fails f u
+    → SoundStore u
+leads-sound s u before p f h e g = leads-since s s u before p f (h .0, h .1, appends-refl s) e g .0
+
+pub work-sound : (n : ℕ) (s : Store) (ps : List Pair) → SoundStore s → PendingRight s ps → Kept (SoundSince s) (FailedSince s) (work rule room n s ps)
+work-sound n s ps sound pending = work-kept rule room (SoundSince s) (FailedSince s) (keeps-since s) (leads-since s) n s ps (sound, pending, appends-refl s)
+
+pub instalments-sound : (ns : List ℕ) (s : Store) (ps : List Pair) → SoundStore s → PendingRight s ps
+    → Kept (SoundSince s) (FailedSince s) (instalments rule room ns s ps)
+instalments-sound ns s ps sound pending =
+    instalments-kept rule room (SoundSince s) (FailedSince s) (keeps-since s) (leads-since s) ns s ps (sound, pending, appends-refl s)
