@@ -31,7 +31,7 @@ use Rattle.laws.proofs.Negation.{Grown, grown-new, neg-grown}
 use Rattle.laws.proofs.Growing.{begins-refl, grows-refl}
 use Rattle.laws.proofs.Stores.{by-test, Leads, add-leads, mark-leads, entries-lead}
 use Rattle.laws.proofs.StepSound.{fitting-sound, work-sound, SoundSince, FailedSince}
-use Rattle.laws.proofs.RuleGood.{pair-of, one-more}
+use Rattle.laws.proofs.Effects.{pair-of, one-more}
 
 -- a refusal, or what is done where a test passes
 module _ (t : Table) where
@@ -385,7 +385,7 @@ module _ (t : Table) (sound : Sound t) where
   pub work-turn-sound : (budget : ℕ) → TurnSound t (workTurn budget t)
   unfolding workTurn
   work-turn-sound budget =
-      when-asked t _ (worked-sound budget (machine.work rule room budget s (t .pending)) (work-sound s (t .pending) (sound .store) (sound .pending) budget))
+      when-asked t _ (worked-sound budget (machine.work rule room budget s (t .pending)) (work-sound budget s (t .pending) (sound .store) (sound .pending)))
 
   pub abandon-sound : TurnSound t (abandonTurn t)
   unfolding abandonTurn

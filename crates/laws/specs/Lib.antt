@@ -1,3 +1,4 @@
 pub mod Good
 pub mod Growth
 pub mod Turns
+pub mod Demands
