@@ -7,22 +7,30 @@ use mathlib.Core.List.{List, [], _∷_}
 use mathlib.Core.Bool.{Bool, true, false, cond}
 use lib.ListN.{length}
 use lib.Dec.{T}
+use Rattle.instalments.specs.Machine.{yes-in, fail-in, more-at, Roomed, answered, refused-in}
+use Rattle.instalments.specs.Machine as machine
+use Rattle.instalments.proofs.Kept.{Kept}
 use Rattle.model.specs.Lists.{allOf, all}
 use Rattle.model.specs.Format.{wordEnd}
-use Rattle.model.specs.Table.{Capacities, Store, Table}
+use Rattle.model.specs.Table.{Pair, Capacities, Store, Table, isAsked}
 use Rattle.model.specs.Image.{words, table, word}
 use Rattle.model.specs.Formed.{wellFormed, breakRight, pairRight, fieldRight, boundRight}
-use Rattle.model.specs.Calls.{Reply, Turn, refuse, tell, leave, replyOf, onTable, emptyTable, capacitiesRight, start, whenNumbered, readEntryTurn, readRecordTurn, readDisjointTurn, Call, makesVariable, makesPrimitive, makesList, makesLambda, makesAttrset, makesNamed, makesNeg, makesInter, makesUnion, marks, putsBound, enters, exits, setsLevel, asks, asksEqual, works, abandons, readsEntry, readsRecord, readsDisjoint, turnOf, perform}
+use Rattle.model.specs.Rules.{rule}
+use Rattle.model.specs.Room.{room}
+use Rattle.model.specs.Calls.{Reply, Turn, refuse, tell, leave, replyOf, onTable, emptyTable, capacitiesRight, start, whenAsked, whenNumbered, workedTurn, workTurn, readEntryTurn, readRecordTurn, readDisjointTurn, Call, makesVariable, makesPrimitive, makesList, makesLambda, makesAttrset, makesNamed, makesNeg, makesInter, makesUnion, marks, putsBound, enters, exits, setsLevel, asks, asksEqual, works, abandons, readsEntry, readsRecord, readsDisjoint, turnOf, perform}
 use Rattle.model.specs.Told.{Told, done}
+use Rattle.model.specs.declared.Failure.{Failure}
+use Rattle.model.specs.declared.Refusal.{Refusal}
 use Rattle.model.specs.declared.Refusal.the-variants.{BadTable, BadCapacity}
 use Rattle.laws.specs.Good.{Good, SoundStore, PendingRight, Sound}
-use Rattle.laws.specs.Growth.{Grows}
+use Rattle.laws.specs.Growth.{Grows, Appends}
 use Rattle.laws.specs.Turns.{TurnSound, storedArgument, Leaves}
 use Rattle.laws.proofs.Tests.{true-of, nth, le-of, all-empty}
-use Rattle.laws.proofs.Growing.{grows-refl}
+use Rattle.laws.proofs.Growing.{grows-refl, appends-refl}
 use Rattle.laws.proofs.Stores.{by-test}
 use Rattle.laws.proofs.Round.{table-words}
 use Rattle.laws.proofs.Formed.{sound-table, formed-words, fits-words}
+use Rattle.laws.proofs.StepSound.{SoundSince, FailedSince, work-sound}
 use Rattle.laws.proofs.Turns.{variable-sound, primitive-sound, list-sound, named-sound, lambda-sound, inter-sound, union-sound, neg-sound, attrset-sound, mark-sound, bound-sound, enter-sound, exit-sound, level-sound, ask-sound, ask-equal-sound, work-turn-sound, abandon-sound}
 
 -- a read changes nothing
@@ -120,3 +128,35 @@ start-formed names functor c ws h =
 pub start-refused : (names functor : ℕ) (c : Capacities) (ws : List ℕ) → capacitiesRight names functor c ws ≡ false → start names functor c ws .words ≡ ws
 unfolding start replyOf
 start-refused names functor c ws e = rw e
+
+-- a question only appends: an instalment leaves levels, fields and equals, and what it found of bounds and visited pairs
+abbrev TurnAppends : Table → Turn → Type 0
+TurnAppends t (refuse r) = Unit {0}
+TurnAppends t (tell a) = Unit {0}
+TurnAppends t (leave a k u) = Appends (t .store) (u .store)
+
+worked-appends : (t : Table) (budget : ℕ) (x : Roomed Store Pair Failure Refusal) → Kept (SoundSince (t .store)) (FailedSince (t .store)) x → TurnAppends t (workedTurn budget x)
+unfolding workedTurn
+worked-appends t budget (answered (yes-in k u)) h = h .2
+worked-appends t budget (answered (fail-in k f u)) h = h .1
+worked-appends t budget (answered (more-at u q)) h = h .2
+worked-appends t budget (refused-in k w u q) h = h .2
+
+work-turn-appends : (t : Table) → Sound t → (budget : ℕ) → TurnAppends t (workTurn budget t)
+unfolding workTurn whenAsked
+work-turn-appends t s budget =
+    by-test (TurnAppends t) (isAsked t)
+    (λ h. worked-appends t budget (machine.work rule room budget (t .store) (t .pending)) (work-sound budget (t .store) (t .pending) (s .store) (s .pending))) (λ h. tt)
+
+reply-appends : (ws : List ℕ) (turn : Turn) → TurnSound (table ws) turn → TurnAppends (table ws) turn → Appends (table ws .store) (table (replyOf ws turn .words) .store)
+unfolding replyOf
+reply-appends ws (refuse r) s k = appends-refl (table ws .store)
+reply-appends ws (tell a) s k = appends-refl (table ws .store)
+reply-appends ws (leave a n t) s k = rw (read-back t (s .0)) k
+
+pub work-appends : (budget : ℕ) (ws : List ℕ) → T (wellFormed ws) → Appends (table ws .store) (table (perform (works budget) ws .words) .store)
+unfolding perform onTable turnOf
+work-appends budget ws h =
+    let t : Table = table ws in
+    let s : Sound t = sound-table ws h in
+    rw (true-of (wellFormed ws) h) (reply-appends ws (workTurn budget t) (work-turn-sound t s budget) (work-turn-appends t s budget))

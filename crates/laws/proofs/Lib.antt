@@ -16,3 +16,5 @@ pub mod Consequences
 pub mod StepSound
 pub mod Turns
 pub mod Calls
+pub mod Demands
+pub mod Questions

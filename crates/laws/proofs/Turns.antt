@@ -178,8 +178,8 @@ module _ (t : Table) (sound : Sound t) where
         broken = break-right-more s u refl refl (kept .longer) (good .broken);
         entries = attrset-good es (s .fields) (s .names) (good .entries) fs wide d ascend known dynamic;
         fields =
-          all-append (fieldRight us) (s .fields) fs (fields-right-more es us (s .fields) (kept .longer) (good .fields))
-          (fields-right-more es us fs (kept .longer) (new-fields-right fs known optional));
+            all-append (fieldRight us) (s .fields) fs (fields-right-more es us (s .fields) (kept .longer) (good .fields))
+            (fields-right-more es us fs (kept .longer) (new-fields-right fs known optional));
         fieldNames = all-append (λ f. ltb (f .name) wordEnd) (s .fields) fs (good .fieldNames) (new-names-fit fs ascend);
         bounds = bounds-right-kept es us (s .bounds) kept (good .bounds);
         visited = pairs-more es us (s .visited) (kept .longer) (good .visited);
@@ -255,31 +255,32 @@ module _ (t : Table) (sound : Sound t) where
   -- levels
   at-level : (l : ℕ) → l < wordEnd → TurnSound t (atLevel l t)
   unfolding atLevel withLevel breakRight
-  at-level l fits =
-      (still-sound (withLevel l s)
-      (record {
-        level = fits;
-        names = good .names;
-        functor = good .functor;
-        broken = good .broken;
-        entries = good .entries;
-        fields = good .fields;
-        fieldNames = good .fieldNames;
-        bounds = good .bounds;
-        visited = good .visited;
-        equals = good .equals;
-      })
-      refl refl refl refl refl refl (λ i. refl),
-      record {
-        names = refl;
-        functor = refl;
-        capacities = refl;
-        entries = kept-refl es;
-        fields = begins-refl (s .fields);
-        bounds = begins-refl (s .bounds);
-        visited = begins-refl (s .visited);
-        equals = begins-refl (s .equals);
-      })
+  at-level l fits = (
+    still-sound (withLevel l s)
+        (record {
+          level = fits;
+          names = good .names;
+          functor = good .functor;
+          broken = good .broken;
+          entries = good .entries;
+          fields = good .fields;
+          fieldNames = good .fieldNames;
+          bounds = good .bounds;
+          visited = good .visited;
+          equals = good .equals;
+        })
+        refl refl refl refl refl refl (λ i. refl),
+    record {
+      names = refl;
+      functor = refl;
+      capacities = refl;
+      entries = kept-refl es;
+      fields = begins-refl (s .fields);
+      bounds = begins-refl (s .bounds);
+      visited = begins-refl (s .visited);
+      equals = begins-refl (s .equals);
+    },
+  )
 
   pub enter-sound : TurnSound t (enterTurn t)
   unfolding enterTurn
@@ -296,31 +297,32 @@ module _ (t : Table) (sound : Sound t) where
       let lt = lt-of v (length es) h in
       let us : List Entry = changed (withX l) es v in
       let kept : EntriesKept es us = level-kept es v l lt var in
-      let u : Store = withEntries us s in
-      (still-sound u
-      (record {
-        level = good .level;
-        names = good .names;
-        functor = good .functor;
-        broken = break-right-more s u refl refl (kept .longer) (good .broken);
-        entries = level-good es (s .fields) (s .names) v l (good .entries) lt var fits;
-        fields = fields-right-more es us (s .fields) (kept .longer) (good .fields);
-        fieldNames = good .fieldNames;
-        bounds = bounds-right-kept es us (s .bounds) kept (good .bounds);
-        visited = pairs-more es us (s .visited) (kept .longer) (good .visited);
-        equals = pairs-more es us (s .equals) (kept .longer) (good .equals);
-      })
-      refl (changed-length (withX l) es v) refl refl refl refl (changed-word (withX l) es v (λ e. e .spread) lt refl),
-      record {
-        names = refl;
-        functor = refl;
-        capacities = refl;
-        entries = kept;
-        fields = begins-refl (s .fields);
-        bounds = begins-refl (s .bounds);
-        visited = begins-refl (s .visited);
-        equals = begins-refl (s .equals);
-      }))))
+      let u : Store = withEntries us s in (
+        still-sound u
+            (record {
+              level = good .level;
+              names = good .names;
+              functor = good .functor;
+              broken = break-right-more s u refl refl (kept .longer) (good .broken);
+              entries = level-good es (s .fields) (s .names) v l (good .entries) lt var fits;
+              fields = fields-right-more es us (s .fields) (kept .longer) (good .fields);
+              fieldNames = good .fieldNames;
+              bounds = bounds-right-kept es us (s .bounds) kept (good .bounds);
+              visited = pairs-more es us (s .visited) (kept .longer) (good .visited);
+              equals = pairs-more es us (s .equals) (kept .longer) (good .equals);
+            })
+            refl (changed-length (withX l) es v) refl refl refl refl (changed-word (withX l) es v (λ e. e .spread) lt refl),
+        record {
+          names = refl;
+          functor = refl;
+          capacities = refl;
+          entries = kept;
+          fields = begins-refl (s .fields);
+          bounds = begins-refl (s .bounds);
+          visited = begins-refl (s .visited);
+          equals = begins-refl (s .equals);
+        },
+      ))))
 
   -- questions
   question-turn : (held : Bool) (a b : ℕ) (u : Table) → (a < length es → b < length es → TurnSound t (leaveIfRoom (done []) u)) → TurnSound t (question held a b t u)
