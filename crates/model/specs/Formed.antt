@@ -9,7 +9,7 @@ use Rattle.model.specs.Format.{wordEnd, headerWords, formatWord, formatA
 use Rattle.model.specs.Format.{entriesRegion, fieldsRegion, boundsRegion, visitedRegion, pendingRegion, equalsRegion}
 use Rattle.model.specs.Format.{entryWidth, fieldWidth, boundWidth, visitedWidth, pendingWidth, equalsWidth}
 use Rattle.model.specs.Format.{entriesMost, fieldsMost, boundsMost, visitedMost, pendingMost, equalsMost, namesMost, spreadMost}
-use Rattle.model.specs.Format.{variable, primitive, list, lambda, attrset, named, neg, inter, union, number, upper}
+use Rattle.model.specs.Format.{variable, primitive, list, lambda, attrset, named, neg, inter, union, number, upper, markFlag, openFlag, dynamicFlag}
 use Rattle.model.specs.Table.{Entry, Field, Bound, Pair, Break, Store, Table, is, isAt, hasDynamic}
 use Rattle.model.specs.Image.{word, offset, capacity, count, table}
 use Rattle.model.specs.Making.{spreadOf}
@@ -113,7 +113,7 @@ unusedZero e =
 
 -- "Flags: 1 default mark (any kind); attrsets also 2 open, 4 dynamic present."
 unfoldable pub flagsKnown : Entry → Bool
-flagsKnown e = leb (e .flags) (cond (is attrset e) 7 1)
+flagsKnown e = leb (e .flags) (cond (is attrset e) (markFlag + openFlag + dynamicFlag) markFlag)
 
 -- "Spread is ..; at most 1,024."
 unfoldable pub spreadRight : List Entry → Entry → Bool

@@ -5,7 +5,7 @@ use mathlib.Core.Bool.{Bool, true, false, cond, _&&_}
 use lib.ListN.{length, take, set}
 use lib.Dec.{eqb, leb, ltb}
 use Rattle.model.specs.Lists.{any}
-use Rattle.model.specs.Format.{scanMost, spreadMost, attrset, neg, inter, union}
+use Rattle.model.specs.Format.{scanMost, spreadMost, markFlag, attrset, neg, inter, union}
 use Rattle.model.specs.Table.{Entry, Bound, Store, entryAt, is, withEntries, withBounds}
 
 -- "Spread is 1 for kinds 0 to 4, 1 + inner for 5 and 6, 1 + both for 7 and 8"
@@ -102,7 +102,7 @@ undone k es = resetAll k (take k es)
 
 -- "mark": flag 1, whatever else is set
 abbrev pub withMark : Entry → Entry
-withMark e = record { kind = e .kind; x = e .x; y = e .y; z = e .z; flags = e .flags - e .flags % 2 + 1; spread = e .spread; negation = e .negation }
+withMark e = record { kind = e .kind; x = e .x; y = e .y; z = e .z; flags = e .flags - e .flags % 2 + markFlag; spread = e .spread; negation = e .negation }
 
 unfoldable pub markEntry : ℕ → Store → Store
 markEntry n s = withEntries (changed withMark (s .entries) n) s

@@ -6,7 +6,7 @@ use mathlib.Core.Bool.{Bool, true, false, not}
 use lib.ListN.{length, getD}
 use lib.Dec.{eqb}
 use Rattle.model.specs.Lists.{isZero}
-use Rattle.model.specs.Format.{idle, asked, unbroken}
+use Rattle.model.specs.Format.{idle, asked, unbroken, markFlag, openFlag, dynamicFlag}
 
 -- "7: kind, x, y, z, flags, spread, negation"
 pub record Entry : Type 0 where
@@ -125,13 +125,13 @@ isAt es k n = is k (entryAt es n)
 
 -- "Flags: 1 default mark (any kind); attrsets also 2 open, 4 dynamic present."
 unfoldable pub marked : Entry → Bool
-marked e = eqb (e .flags % 2) 1
+marked e = eqb (e .flags / markFlag % 2) 1
 
 unfoldable pub isOpen : Entry → Bool
-isOpen e = eqb (e .flags / 2 % 2) 1
+isOpen e = eqb (e .flags / openFlag % 2) 1
 
 unfoldable pub hasDynamic : Entry → Bool
-hasDynamic e = eqb (e .flags / 4 % 2) 1
+hasDynamic e = eqb (e .flags / dynamicFlag % 2) 1
 
 -- opens all that stands above
 unfoldable pub tables : Unit {0}
