@@ -1,0 +1,3 @@
+pub mod Laid
+pub mod Shown
+pub mod Records

@@ -1,0 +1,32 @@
+-- Records by their number (past the end, one with every word 0), and an attrset from its words. Assumes nothing.
+use Prim.Native.Nat.{ℕ, _/_, _%_}
+use mathlib.Core.List.{List}
+use mathlib.Core.Bool.{Bool, cond}
+use lib.ListN.{getD}
+use lib.Dec.{eqb}
+use Rattle.model.specs.Format.{openFlag, dynamicFlag}
+use Rattle.model.specs.declared.Attrset.{Attrset}
+use Rattle.model.specs.declared.Dynamic.{Dynamic}
+use Rattle.model.specs.declared.Dynamic.the-variants.{Absent, Present}
+use Rattle.model.specs.Table.{Field, Bound, Pair, _⊑_}
+
+abbrev pub fieldAt : List Field → ℕ → Field
+fieldAt fs i = getD fs i (record { name = 0; entry = 0; optional = 0 })
+
+abbrev pub boundAt : List Bound → ℕ → Bound
+boundAt bs i = getD bs i (record { variable = 0; side = 0; bound = 0 })
+
+abbrev pub pairAt : List Pair → ℕ → Pair
+pairAt ps i = getD ps i (0 ⊑ 0)
+
+abbrev pub saysOpen : ℕ → Bool
+saysOpen flags = eqb (flags / openFlag % 2) 1
+
+abbrev pub saysDynamic : ℕ → Bool
+saysDynamic flags = eqb (flags / dynamicFlag % 2) 1
+
+abbrev pub dynamicRead : ℕ → ℕ → Dynamic
+dynamicRead flags z = cond (saysDynamic flags) (Present z) Absent
+
+abbrev pub attrsetRead : ℕ → ℕ → ℕ → ℕ → Attrset
+attrsetRead x y z flags = record { first = x; count = y; is_open = saysOpen flags; dynamic = dynamicRead flags z }
