@@ -8,7 +8,8 @@ use mathlib.Core.List.{List, [], _∷_}
 use mathlib.Core.Bool.{Bool, true, false, cond, _&&_, and-false}
 use mathlib.Core.Logic.{⊎-elim}
 use lib.ListN.{getD}
-use Rattle.names.specs.Names.{allBelow, allOf, orElse, firstBelow}
+use Rattle.model.specs.Lists.{allOf}
+use Rattle.names.specs.Names.{allBelow, orElse, firstBelow}
 
 and-left : (a b : Bool) → (a && b) ≡ true → a ≡ true
 and-left true b h = refl
