@@ -1,4 +1,6 @@
-// What the engine stands on, printed: the table of the operators on primitives.
+// What the engine stands on, printed: the table of the operators on primitives, and name lists.
+mod name_list;
+
 use libc::STDOUT_FILENO;
 use operators::Resolved;
 
@@ -9,6 +11,7 @@ fn main() {
     print_operator(b"     Sub", operators::SUB);
     print_operator(b"     Mul", operators::MUL);
     print_operator(b"     Div", operators::DIV);
+    name_list::print_lists();
 }
 
 // An operator's table, under its name.
