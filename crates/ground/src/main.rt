@@ -22,6 +22,7 @@ fn print_operator(name: &[u8], op: u32) {
     print_rows(op);
 }
 
+// A row for each left primitive.
 fn print_rows(op: u32) {
     for left in operators::NULL..=operators::NUMBER {
         print_row(op, left);
@@ -38,6 +39,7 @@ fn print_row(op: u32, left: u32) {
     print(b"\n");
 }
 
+// The result with each right primitive.
 fn print_results(op: u32, left: u32) {
     for right in operators::NULL..=operators::NUMBER {
         print_resolved(operators::resolve(op, left, right));
@@ -68,6 +70,7 @@ fn print_primitive(p: u32) {
     }
 }
 
+// Writes all of s to standard output.
 fn print(s: &[u8]) {
     io::write_all(STDOUT_FILENO, s);
 }

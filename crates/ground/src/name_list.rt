@@ -9,54 +9,10 @@ use names::Found;
 use names::Order;
 
 // The names `__functor`, `x`, `y`: their count, the offsets, and the bytes.
-const LIST: [u8; 21] = [
-    3,
-    0,
-    0,
-    0,
-    9,
-    0,
-    10,
-    0,
-    11,
-    0,
-    b'_',
-    b'_',
-    b'f',
-    b'u',
-    b'n',
-    b'c',
-    b't',
-    b'o',
-    b'r',
-    b'x',
-    b'y',
-];
+const LIST: [u8; 21] = *b"\x03\0\0\0\x09\0\x0A\0\x0B\0__functorxy";
 
 // The same with the third offset below the second.
-const FALLING: [u8; 21] = [
-    3,
-    0,
-    0,
-    0,
-    9,
-    0,
-    8,
-    0,
-    11,
-    0,
-    b'_',
-    b'_',
-    b'f',
-    b'u',
-    b'n',
-    b'c',
-    b't',
-    b'o',
-    b'r',
-    b'x',
-    b'y',
-];
+const FALLING: [u8; 21] = *b"\x03\0\0\0\x09\0\x08\0\x0B\0__functorxy";
 
 // A right list, and a malformed one.
 pub fn print_lists() {
@@ -101,7 +57,7 @@ fn print_count(list: &[u8]) {
     print(b"\n");
 }
 
-// The part of the list that holds name n, in quotes; where that is the empty part, why.
+// The part of the list that holds name n, in quotes; where it is refused, the empty part, and why.
 fn print_name(list: &[u8], n: u32) {
     print(b"name ");
     print_number(n);
@@ -157,7 +113,7 @@ fn print_search(list: &[u8], bytes: &[u8]) {
     print(b"\n");
 }
 
-// 01's number for a refusal that a name call gives.
+// 01's number for a refusal. A name call gives these two, and no other.
 fn print_refusal(r: Refusal) {
     match r {
         Refusal::BadNumber => print(b"refused 2"),
@@ -166,6 +122,7 @@ fn print_refusal(r: Refusal) {
     }
 }
 
+// A number in decimal.
 fn print_number(n: u32) {
     io::print_decimal(STDOUT_FILENO, n as u64);
 }
