@@ -1,4 +1,6 @@
-// What the engine stands on, printed: the table of the operators on primitives.
+// What the engine stands on, printed: the table of the operators on primitives, and name lists.
+mod name_list;
+
 use libc::STDOUT_FILENO;
 use operators::Resolved;
 
@@ -9,6 +11,7 @@ fn main() {
     print_operator(b"     Sub", operators::SUB);
     print_operator(b"     Mul", operators::MUL);
     print_operator(b"     Div", operators::DIV);
+    name_list::print_lists();
 }
 
 // An operator's table, under its name.
@@ -19,6 +22,7 @@ fn print_operator(name: &[u8], op: u32) {
     print_rows(op);
 }
 
+// A row for each left primitive.
 fn print_rows(op: u32) {
     for left in operators::NULL..=operators::NUMBER {
         print_row(op, left);
@@ -35,6 +39,7 @@ fn print_row(op: u32, left: u32) {
     print(b"\n");
 }
 
+// The result with each right primitive.
 fn print_results(op: u32, left: u32) {
     for right in operators::NULL..=operators::NUMBER {
         print_resolved(operators::resolve(op, left, right));
@@ -65,6 +70,7 @@ fn print_primitive(p: u32) {
     }
 }
 
+// Writes all of s to standard output.
 fn print(s: &[u8]) {
     io::write_all(STDOUT_FILENO, s);
 }

@@ -5,25 +5,18 @@ use native.Mathlib.Numerals.{add-one}
 use native.Mathlib.Omega.{arith}
 use mathlib.Core.Path.{_≡_, refl, _∙_}
 use mathlib.Core.List.{List, [], _∷_}
-use mathlib.Core.Bool.{Bool, true, false, cond, _&&_, and-false}
+use mathlib.Core.Bool.{Bool, true, false, cond, and-false, and-eq-true-iff}
 use mathlib.Core.Logic.{⊎-elim}
 use lib.ListN.{getD}
-use Rattle.names.specs.Names.{allBelow, allOf, orElse, firstBelow}
-
-and-left : (a b : Bool) → (a && b) ≡ true → a ≡ true
-and-left true b h = refl
-and-left false b h = h
-
-and-right : (a b : Bool) → (a && b) ≡ true → b ≡ true
-and-right true b h = h
-and-right false b h = cc
+use Rattle.model.specs.Lists.{allOf}
+use Rattle.names.specs.Names.{allBelow, orElse, firstBelow}
 
 -- where all of some tests pass, each does
 pub all-of-at : (ts : List Bool) → allOf ts ≡ true → (k : ℕ) → getD ts k true ≡ true
 unfolding allOf
 all-of-at [] e k = refl
-all-of-at (t ∷ ts) e zero = and-left t (allOf ts) e
-all-of-at (t ∷ ts) e (suc k) = all-of-at ts (and-right t (allOf ts) e) k
+all-of-at (t ∷ ts) e zero = and-eq-true-iff t (allOf ts) .0 e .0
+all-of-at (t ∷ ts) e (suc k) = all-of-at ts (and-eq-true-iff t (allOf ts) .0 e .1) k
 
 module _ (p : ℕ → Bool) where
   pub all-none : allBelow p 0 ≡ true
@@ -49,8 +42,8 @@ module _ (p : ℕ → Bool) where
   all-at zero e i lt = absurd (omega arith)
   all-at (suc n) e i lt =
       ⊎-elim
-      (λ (q : i ≡ n). rw q (and-right (allBelow p n) (p n) e))
-      (λ (l : i < n). all-at n (and-left (allBelow p n) (p n) e) i l)
+      (λ (q : i ≡ n). rw q (and-eq-true-iff (allBelow p n) (p n) .0 e .1))
+      (λ (l : i < n). all-at n (and-eq-true-iff (allBelow p n) (p n) .0 e .0) i l)
       (eq-or-lt-of-le (omega arith))
 
   pub first-none : firstBelow p 0 ≡ []

@@ -1,4 +1,5 @@
--- What an accepted check of a name number tells, and that no refusal is an acceptance. Assumes nothing.
+-- What the check of a name number tells: where it is done the list has the name, and where it is refused it is not accepted.
+-- Assumes nothing.
 use Prim.Native.Nat.{ℕ, _<_}
 use native.Mathlib.Omega.{arith}
 use mathlib.Core.Path.{_≡_, refl}
@@ -6,17 +7,23 @@ use mathlib.Core.List.{List, []}
 use mathlib.Core.Bool.{Bool, true, false, cond, _&&_}
 use lib.Dec.{ltb}
 use borrow.Author.Tests.{ltb-true}
-use Rattle.model.specs.Told.{done, refused, toldRefusal}
+use Rattle.model.specs.Lists.{allOf}
+use Rattle.model.specs.Told.{Told, done, toldRefusal}
 use Rattle.model.specs.declared.Refusal.{Refusal}
-use Rattle.model.specs.declared.Refusal.the-variants as R
-use Rattle.names.specs.Names.{nameCount, allOf, namesRight, nameCall, checkName, accepted}
+use Rattle.model.specs.declared.Refusal.the-variants.{BadNumber, BadNames}
+use Rattle.names.specs.Names.{nameCount, namesRight, nameCall, checkName, accepted}
+use Rattle.names.proofs.OneToOne.{none-refused}
 
 -- a name number that is accepted: the list is right, and has the name
 pub record Named (bs : List ℕ) (n : ℕ) : Type 0 where
   pub right : namesRight bs ≡ true
   pub below : n < nameCount bs
 
-both-true : (t u : Bool) → cond t (cond (u && true) (done []) (refused 2 [])) (refused 12 []) ≡ done [] → (t ≡ true) × (u ≡ true)
+-- the check by its two tests
+abbrev byTests : Bool → Bool → Told
+byTests t u = cond t (cond (u && true) (done []) (toldRefusal BadNumber)) (toldRefusal BadNames)
+
+both-true : (t u : Bool) → byTests t u ≡ done [] → (t ≡ true) × (u ≡ true)
 both-true true true e = (refl, refl)
 both-true true false e = let z : _≡_ {A = ℕ} 0 1 = cc in absurd (omega arith)
 both-true false u e = let z : _≡_ {A = ℕ} 0 1 = cc in absurd (omega arith)
@@ -27,16 +34,11 @@ named bs n e =
     let q = both-true (namesRight bs) (ltb n (nameCount bs)) e in
     record { right = q .0; below = ltb-true n (nameCount bs) (q .1) }
 
-pub not-accepted : (r : Refusal) → accepted (toldRefusal r) ≡ false
-not-accepted R.BadTable = refl
-not-accepted R.BadNumber = refl
-not-accepted R.Busy = refl
-not-accepted R.Idle = refl
-not-accepted (R.NoRoom region) = refl
-not-accepted R.TooDeep = refl
-not-accepted R.BadFields = refl
-not-accepted (R.Broken kind sub sup name) = refl
-not-accepted R.BadCapacity = refl
-not-accepted R.Level = refl
-not-accepted R.NotAVariable = refl
-not-accepted R.BadNames = refl
+some-false : (t u : Bool) (r : Refusal) → byTests t u ≡ toldRefusal r → accepted (byTests t u) ≡ false
+some-false true true r e = absurd (none-refused r e)
+some-false true false r e = refl
+some-false false u r e = refl
+
+pub not-accepted : (bs : List ℕ) (n : ℕ) (r : Refusal) → checkName bs n ≡ toldRefusal r → accepted (checkName bs n) ≡ false
+unfolding checkName nameCall allOf
+not-accepted bs n = some-false (namesRight bs) (ltb n (nameCount bs))

@@ -10,8 +10,10 @@ use mathlib.Core.Logic.{_⊎_, inl, inr, ⊎-elim}
 use lib.ListN.{length, replicate}
 use lib.Dec.{ltb}
 use borrow.Author.Tests.{ltb-true, ltb-false, lt-ltb, le-ltb, lt-leb, eqb-true, eq-eqb, ne-eqb, leb-true}
-use Rattle.model.specs.Told.{done, refused}
-use Rattle.names.specs.Names.{u16At, nameCount, nameOffset, bytesAt, nameOf, allBelow, allOf, before, same, after, compareNames, ascendsAt, tests, namesRight, nameCall, checkNames, checkName, countNames, compareAt, firstBelow, hasBytes, numberOf, findName, showName}
+use Rattle.model.specs.Lists.{allOf}
+use Rattle.model.specs.Told.{done, toldRefusal}
+use Rattle.model.specs.declared.Refusal.the-variants.{BadNumber, BadNames}
+use Rattle.names.specs.Names.{u16At, nameCount, nameOffset, bytesAt, nameOf, allBelow, before, same, after, compareNames, ascendsAt, tests, namesRight, nameCall, checkNames, checkName, countNames, compareAt, firstBelow, hasBytes, numberOf, findName, showName}
 use Rattle.names.proofs.All.{all-at, all-of-at, first-hit, first-nowhere, first-found}
 
 -- ---- how names compare
@@ -204,7 +206,7 @@ module _ (bs : List ℕ) (right : namesRight bs ≡ true) where
 -- ---- the shortest lists
 
 -- under 4 bytes is malformed
-pub short-refused : (bs : List ℕ) → length bs < 4 → checkNames bs ≡ refused 12 []
+pub short-refused : (bs : List ℕ) → length bs < 4 → checkNames bs ≡ toldRefusal BadNames
 unfolding checkNames nameCall namesRight allOf
 short-refused bs h = rw (lt-leb (bytesAt bs) (length bs) (omega arith))
 
@@ -246,7 +248,7 @@ pub bench-shows : map (showName bench) (0 ∷ 1 ∷ 2 ∷ []) ≡ benchNames
 unfolding calls
 bench-shows = refl
 
-pub bench-refuses : (checkName bench 3 ≡ refused 2 []) × (showName bench 3 ≡ [])
+pub bench-refuses : (checkName bench 3 ≡ toldRefusal BadNumber) × (showName bench 3 ≡ [])
 unfolding calls
 bench-refuses = (refl, refl)
 
@@ -286,6 +288,6 @@ pub right-lists : map checkNames rightLists ≡ map (λ _. done []) rightLists
 unfolding calls
 right-lists = refl
 
-pub wrong-lists : map checkNames wrongLists ≡ map (λ _. refused 12 []) wrongLists
+pub wrong-lists : map checkNames wrongLists ≡ map (λ _. toldRefusal BadNames) wrongLists
 unfolding calls
 wrong-lists = refl

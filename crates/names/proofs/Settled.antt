@@ -4,7 +4,8 @@ use Prim.Native.Nat.{ℕ}
 use mathlib.Core.Path.{_≡_, sym, _∙_}
 use mathlib.Core.List.{List}
 use denote.Ref.{RefT}
-use Rattle.names.proofs.OneToOne.{reply-one-to-one, counted-one-to-one, order-one-to-one, compared-one-to-one, found-one-to-one}
+use Rattle.model.proofs.OneToOne.{reply-one-to-one}
+use Rattle.names.proofs.OneToOne.{counted-one-to-one, order-one-to-one, compared-one-to-one, found-one-to-one}
 use Rattle.names.proofs.check.Reads as check
 use Rattle.names.proofs.check_name.Reads as check-name
 use Rattle.names.proofs.count.Reads as count

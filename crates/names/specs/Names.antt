@@ -5,7 +5,10 @@ use mathlib.Core.List.{List, [], _∷_, map}
 use mathlib.Core.Bool.{Bool, true, false, cond, _&&_}
 use lib.ListN.{length, getD, take, drop}
 use lib.Dec.{eqb, leb, ltb}
-use Rattle.model.specs.Told.{Told, done, yes, more, failed, refused}
+use Rattle.model.specs.Lists.{allOf}
+use Rattle.model.specs.Format.{namesMost}
+use Rattle.model.specs.Told.{Told, done, yes, more, failed, refused, toldRefusal}
+use Rattle.model.specs.declared.Refusal.the-variants.{BadNumber, BadNames}
 
 -- "A name list is bytes: count (u16, little endian), count+1 offsets (u16) into the name bytes, then the bytes."
 -- the u16, little endian, at a byte
@@ -30,14 +33,10 @@ nameAt bs i = bytesAt bs + nameOffset bs i
 unfoldable pub nameOf : List ℕ → ℕ → List ℕ
 nameOf bs i = take (nameAt bs (i + 1) - nameAt bs i) (drop (nameAt bs i) bs)
 
--- a test that passes at each number below n; tests that all pass
+-- a test that passes at each number below n
 unfoldable pub allBelow : (ℕ → Bool) → ℕ → Bool
 allBelow p zero = true
 allBelow p (suc n) = allBelow p n && p n
-
-unfoldable pub allOf : List Bool → Bool
-allOf [] = true
-allOf (t ∷ ts) = t && allOf ts
 
 -- the count and the offsets are all there: at least 4 bytes
 abbrev pub headerWhole : List ℕ → Bool
@@ -58,10 +57,13 @@ lastRight bs = eqb (nameOffset bs (nameCount bs)) (length bs - bytesAt bs)
 
 -- "At most 4,096 names, each 0 to 255 bytes, strictly ascending."
 abbrev pub fewNames : List ℕ → Bool
-fewNames bs = leb (nameCount bs) 4096
+fewNames bs = leb (nameCount bs) namesMost
+
+abbrev pub nameMost : ℕ
+nameMost = 255
 
 abbrev pub shortAt : List ℕ → ℕ → Bool
-shortAt bs i = leb (nameOffset bs (i + 1) - nameOffset bs i) 255
+shortAt bs i = leb (nameOffset bs (i + 1) - nameOffset bs i) nameMost
 
 abbrev pub noneLong : List ℕ → Bool
 noneLong bs = allBelow (shortAt bs) (nameCount bs)
@@ -95,13 +97,13 @@ tests bs = headerWhole bs ∷ firstZero bs ∷ noneFalls bs ∷ lastRight bs ∷
 unfoldable pub namesRight : List ℕ → Bool
 namesRight bs = allOf (tests bs)
 
--- "a name call tests 12 before 2": 12, the name list malformed; 2, one of the call's name numbers at or above the count;
--- else the call's own answer
+-- "a name call tests 12 before 2": BAD NAMES, the name list malformed; BAD NUMBER, one of the call's name numbers at or
+-- above the count; else the call's own answer
 unfoldable pub nameCall : List ℕ → List ℕ → Told → Told
 nameCall bs numbers answer =
     cond (namesRight bs)
-    (cond (allOf (map (λ n. ltb n (nameCount bs)) numbers)) answer (refused 2 []))
-    (refused 12 [])
+    (cond (allOf (map (λ n. ltb n (nameCount bs)) numbers)) answer (toldRefusal BadNumber))
+    (toldRefusal BadNames)
 
 unfoldable pub checkNames : List ℕ → Told
 checkNames bs = nameCall bs [] (done [])

@@ -10,6 +10,12 @@ ghost use Rattle.names.specs.Names.{u16At, nameCount, nameOffset, bytesA
 ghost use Rattle.names.specs.Answers.{toldCounted, toldOrder, toldCompared, toldFound};
 ghost use Rattle.names.specs.Laid.{Laid};
 
+// A list has at most so many names.
+const NAMES_MOST: usize = 4096;
+
+// A name has at most so many bytes.
+const NAME_MOST: usize = 255;
+
 // How many names a list has.
 pub enum Counted {
     Count(u32),
@@ -127,15 +133,15 @@ fn last_right(list: &[u8]) -> bool
     offset(list, count) == list.len() - bytes_at(list)
 }
 
-// Whether there are at most 4,096 names.
+// Whether there are not too many names.
 fn few_names(list: &[u8]) -> bool
     requires { ⌜ bytesAt (now list) ≤ length (now list) ⌝ }
     ensures { λ r. ⌜ r ≡ fewNames (now (list .entry)) ⌝ }
 {
-    count_word(list) <= 4096
+    count_word(list) <= NAMES_MOST
 }
 
-// Whether no name has more than 255 bytes.
+// Whether no name is too long.
 fn none_long(list: &[u8]) -> bool
     requires { ⌜ bytesAt (now list) ≤ length (now list) ⌝ }
     ensures { λ r. ⌜ r ≡ noneLong (now (list .entry)) ⌝ }
@@ -143,7 +149,7 @@ fn none_long(list: &[u8]) -> bool
     let count = count_word(list);
     let mut i = 0;
     while i < count {
-        if offset(list, i) + 255 < offset(list, i + 1) {
+        if offset(list, i) + NAME_MOST < offset(list, i + 1) {
             return false;
         }
         i += 1;

@@ -1,5 +1,6 @@
 -- `names::check` meets its contract. Assumes nothing.
-use Rattle.names.specs.Names.{allOf, nameCall, checkNames}
+use Rattle.model.specs.Lists.{allOf}
+use Rattle.names.specs.Names.{nameCall, checkNames}
 use borrow.Author.Needs.{needs}
 use Rattle.names.proofs.check.Statement.{statement}
 use Rattle.names.proofs.check.Tie as tie

@@ -1,6 +1,7 @@
 -- `names::compare` meets its contract. Assumes nothing.
 use borrow.Author.Tests.{lt-ltb, le-ltb}
-use Rattle.names.specs.Names.{nameCount, allOf, nameCall, compareAt}
+use Rattle.model.specs.Lists.{allOf}
+use Rattle.names.specs.Names.{nameCount, nameCall, compareAt}
 use Rattle.names.proofs.Laying.{right-laid}
 use Rattle.names.proofs.Tested.{passed, failed}
 use borrow.Author.Needs.{needs}

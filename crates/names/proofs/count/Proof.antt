@@ -1,6 +1,7 @@
 -- `names::count` meets its contract. Assumes nothing.
 use mathlib.Core.Path.{sym, _∙_}
-use Rattle.names.specs.Names.{allOf, nameCall, countNames}
+use Rattle.model.specs.Lists.{allOf}
+use Rattle.names.specs.Names.{nameCall, countNames}
 use Rattle.names.proofs.Laying.{right-laid}
 use borrow.Author.Needs.{needs}
 use Rattle.names.proofs.count.Statement.{statement}

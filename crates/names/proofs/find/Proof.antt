@@ -1,6 +1,7 @@
 -- `names::find` meets its contract. Assumes nothing.
 use mathlib.Core.Path.{sym, _∙_}
-use Rattle.names.specs.Names.{allOf, nameCall, findName}
+use Rattle.model.specs.Lists.{allOf}
+use Rattle.names.specs.Names.{nameCall, findName}
 use Rattle.names.proofs.Laying.{right-laid}
 use borrow.Author.Needs.{needs}
 use Rattle.names.proofs.find.Statement.{statement}

@@ -4,7 +4,7 @@ use mathlib.Core.Path.{_≡_, sym}
 use mathlib.Core.Bool.{true}
 use native.Mathlib.Omega.{arith}
 use borrow.Author.Tests.{lt-leb, le-leb}
-use Rattle.names.specs.Names.{nameCount, nameOffset, allBelow, shortAt}
+use Rattle.names.specs.Names.{nameCount, nameOffset, allBelow, nameMost, shortAt}
 use Rattle.names.proofs.All.{all-none, all-more, all-miss}
 use borrow.Author.Needs.{needs}
 use Rattle.names.proofs.none_long.Statement.{statement}
@@ -38,7 +38,7 @@ returns : tie.Need-returns Inv-loop μ-loop
 returns c =
     let bs = c .before .before .before .before .before .before .before .args .list .now in
     let i = c .before .before .before .before .loop .i in
-    sym (all-miss (shortAt bs) i (nameCount bs) (search needs) (lt-leb (nameOffset bs (i + 1) - nameOffset bs i) 255 (search needs)))
+    sym (all-miss (shortAt bs) i (nameCount bs) (search needs) (lt-leb (nameOffset bs (i + 1) - nameOffset bs i) nameMost (search needs)))
 
 add-i : tie.Need-add-i Inv-loop μ-loop
 add-i c = search needs
@@ -50,7 +50,7 @@ loop-again : tie.Need-loop-again Inv-loop μ-loop
 loop-again c =
     let bs = c .before .before .before .before .before .before .before .args .list .now in
     let i = c .before .before .before .before .loop .i in
-    (search needs, search needs, all-more (shortAt bs) i (c .before .before .before .before .loop .inv .2) (le-leb (nameOffset bs (i + 1) - nameOffset bs i) 255 (search needs)))
+    (search needs, search needs, all-more (shortAt bs) i (c .before .before .before .before .loop .inv .2) (le-leb (nameOffset bs (i + 1) - nameOffset bs i) nameMost (search needs)))
 
 returns-2 : tie.Need-returns-2 Inv-loop μ-loop
 returns-2 c =

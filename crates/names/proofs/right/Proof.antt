@@ -2,7 +2,8 @@
 use mathlib.Core.Path.{sym}
 use mathlib.Core.Bool.{and-true}
 use borrow.Author.Tests.{leb-true}
-use Rattle.names.specs.Names.{allOf, namesRight}
+use Rattle.model.specs.Lists.{allOf}
+use Rattle.names.specs.Names.{namesRight}
 use Rattle.names.proofs.Laying.{laid}
 use Rattle.names.proofs.Tested.{passed, failed}
 use borrow.Author.Needs.{needs}

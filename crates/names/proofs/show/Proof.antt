@@ -74,7 +74,7 @@ unfolding showName shownAt
 returns-2 c =
     let s = c .before .before .before .before .before .args in
     let e : accepted (checkName (s .list .now) (s .n)) ≡ false =
-    ap accepted (sym (c .before .before .before .check-name .ensures) ∙ ap toldReply (c .before .enum-told2 .given .1)) ∙ not-accepted (c .before .enum-told2 .given .0 .0) in
+    not-accepted _ _ (c .before .enum-told2 .given .0 .0) (sym (c .before .before .before .check-name .ensures) ∙ ap toldReply (c .before .enum-told2 .given .1)) in
     (rw e, rw e)
 
 pub show-spec : {M : Type 1} → statement M
