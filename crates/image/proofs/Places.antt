@@ -5,9 +5,10 @@ use mathlib.Core.Path.{_≡_, refl, sym, ap, _∙_, subst}
 use mathlib.Core.List.{List, [], _∷_, _++_, append-assoc, append-nil}
 use lib.ListN.{length, getD, set, take, replicate, length-append, length-set}
 use lib.Seq.{sets, length-take-le, take-length, take-suc}
-use Rattle.model.specs.Format.{stateAt, offsetAt, capacityAt, countAt, entryWidth, fieldWidth, boundWidth, visitedWidth, pendingWidth, equalsWidth}
+use Rattle.model.specs.Format.{headerWords, stateAt, offsetAt, capacityAt, countAt, entryWidth, fieldWidth, boundWidth, visitedWidth, pendingWidth, equalsWidth}
 use Rattle.model.specs.Format.{entriesRegion, fieldsRegion, boundsRegion, visitedRegion, pendingRegion, equalsRegion}
-use Rattle.model.specs.Table.{Entry, Field, Bound, Pair, Table, stateOf, withEntries, withFields, withBounds, withVisited, withEquals}
+use Rattle.model.specs.Making.{changed}
+use Rattle.model.specs.Table.{Entry, Field, Bound, Pair, Table, stateOf, noEntry, entryAt, withEntries, withFields, withBounds, withVisited, withEquals}
 use Rattle.model.specs.Image.{entryWords, fieldWords, boundWords, pairWords, entryOf, fieldOf, boundOf, pairOf, region, header, words, table, offset, capacity, count, word}
 use Rattle.laws.specs.Good.{Held}
 use Rattle.laws.proofs.Regions.{Coded, region-length, entry-coded, field-coded, bound-coded, pair-coded}
@@ -249,7 +250,7 @@ module _ (w : List ℕ) (s : Shown w) where
       }
 
   pub pending-part : Part w pairWords pendingWidth pendingRegion (storeOf w .capacities .pending) (pendingTo w) countedPending (pendingIn w)
-  unfolding words header 
+  unfolding words header
   pending-part =
       let h = s .within .held in
       record {
@@ -283,3 +284,45 @@ module _ (w : List ℕ) (s : Shown w) where
         fits = h .equals;
         within = λ m n. record { held = record { entries = h .entries; fields = h .fields; bounds = h .bounds; visited = h .visited; equals = n }; pending = s .within .pending; small = s .within .small };
       }
+
+-- equal words show the same table
+pub become : {v w : List ℕ} {t : Table} → v ≡ w → Shows w t → Shows v t
+become {v} {w} {t} e s = subst (λ (x : List ℕ). Shows x t) (sym e) s
+
+-- the entries, which start right behind the header
+module _ (w : List ℕ) (s : Shown w) where
+  entries-start : offset w entriesRegion ≡ headerWords
+  entries-start = facts s .laid .entries .starts
+
+  pub entry-pushed : (e : Entry) → length (entriesOf w) < storeOf w .capacities .entries
+      → Shows (set (sets w (27 + 7 * word w 11) (entryWords e)) 11 (word w 11 + 1)) (entriesTo w (entriesOf w ++ (e ∷ [])))
+  entry-pushed e h =
+      subst (λ (n : ℕ). Shows (set (sets w (n + 7 * word w 11) (entryWords e)) 11 (word w 11 + 1)) (entriesTo w (entriesOf w ++ (e ∷ []))))
+      entries-start (shows-pushed entry-coded (entries-part w s) e h)
+
+  pub entry-popped : 0 < length (entriesOf w)
+      → Shows (set (sets w (27 + 7 * (word w 11 - 1)) (replicate 7 0)) 11 (word w 11 - 1)) (entriesTo w (take (length (entriesOf w) - 1) (entriesOf w)))
+  entry-popped h =
+      subst (λ (n : ℕ). Shows (set (sets w (n + 7 * (word w 11 - 1)) (replicate 7 0)) 11 (word w 11 - 1)) (entriesTo w (take (length (entriesOf w) - 1) (entriesOf w))))
+      entries-start (shows-popped entry-coded (entries-part w s) noEntry h)
+
+  pub entry-put : (g : Entry → Entry) (i j v : ℕ) → i < length (entriesOf w) → j < 7 → entryWords (g (entryAt (entriesOf w) i)) ≡ set (entryWords (entryAt (entriesOf w) i)) j v
+      → Shows (set w (27 + 7 * i + j) v) (entriesTo w (changed g (entriesOf w) i))
+  unfolding entries-part header withEntries changed
+  entry-put g i j v h k e =
+      let es = entriesOf w in
+      let b = g (entryAt es i) in
+      subst (λ (n : ℕ). Shows (set w (n + 7 * i + j) v) (entriesTo w (set es i b)))
+      entries-start (part-put entry-coded (entries-part w s) i j v b noEntry h k e (rw (length-set es i b)))
+
+-- seven stores are a run
+pub seven : (w : List ℕ) (a : ℕ) (e : Entry)
+    → set (set (set (set (set (set (set w a (e .kind)) (a + 1) (e .x)) (a + 2) (e .y)) (a + 3) (e .z)) (a + 4) (e .flags)) (a + 5) (e .spread)) (a + 6) (e .negation) ≡ sets w a (entryWords e)
+seven w a e =
+    let e₁ : a + 1 ≡ suc a = omega arith in
+    let e₂ : a + 2 ≡ suc (suc a) = omega arith in
+    let e₃ : a + 3 ≡ suc (suc (suc a)) = omega arith in
+    let e₄ : a + 4 ≡ suc (suc (suc (suc a))) = omega arith in
+    let e₅ : a + 5 ≡ suc (suc (suc (suc (suc a)))) = omega arith in
+    let e₆ : a + 6 ≡ suc (suc (suc (suc (suc (suc a))))) = omega arith in
+    rw (e₁, e₂, e₃, e₄, e₅, e₆)
