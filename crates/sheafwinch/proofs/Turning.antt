@@ -1,0 +1,89 @@
+-- A call by its tests, one after the other: what it says and leaves where a test refuses, and what is left to do where it does not.
+-- Assumes nothing.
+use Prim.Native.Nat.{ℕ, _≤_, _<_}
+use native.Mathlib.Omega.{arith}
+use mathlib.Core.Path.{_≡_, refl, sym, ap, _∙_}
+use mathlib.Core.List.{List}
+use mathlib.Core.Bool.{Bool, true, false, _&&_, and-false}
+use lib.ListN.{length}
+use lib.Dec.{T, leb, ltb}
+use borrow.Author.Tests.{lt-ltb, le-ltb, le-leb, lt-leb}
+use Rattle.model.specs.Format.{variable}
+use Rattle.model.specs.Table.{Entry, Table, isAsked, isAt}
+use Rattle.model.specs.Image.{table}
+use Rattle.model.specs.Formed.{wellFormed, isEntry}
+use Rattle.model.specs.Calls.{Reply, Turn, refuse, replyOf, onTable, whenIdle, whenNumbered, whenVariable, Call, turnOf, perform}
+use Rattle.model.specs.Told.{Told, toldRefusal}
+use Rattle.model.specs.declared.Refusal.{Refusal}
+use Rattle.model.specs.declared.Refusal.the-variants.{BadTable, BadNumber, Busy, NotAVariable}
+use Rattle.laws.proofs.Tests.{true-of}
+
+-- a reply by its two parts
+pub record Replies (a : Told) (v : List ℕ) (r : Reply) : Type 0 where
+  pub says : a ≡ r .says
+  pub leaves : v ≡ r .words
+
+pub refused-as : (w : List ℕ) (r : Refusal) → Replies (toldRefusal r) w (replyOf w (refuse r))
+unfolding replyOf
+refused-as w r = record { says = refl; leaves = refl }
+
+-- a reply that is the same
+pub as-same : {a : Told} {v : List ℕ} {r s : Reply} → r ≡ s → Replies a v r → Replies a v s
+as-same e k = record { says = k .says ∙ ap (λ (x : Reply). x .says) e; leaves = k .leaves ∙ ap (λ (x : Reply). x .words) e }
+
+-- 1
+pub bad-table : (c : Call) (w : List ℕ) → wellFormed w ≡ false → Replies (toldRefusal BadTable) w (perform c w)
+unfolding perform onTable
+bad-table c w e = rw e (refused-as w BadTable)
+
+pub good-table : (c : Call) (w : List ℕ) → T (wellFormed w) → {a : Told} {v : List ℕ} → Replies a v (replyOf w (turnOf c w (table w))) → Replies a v (perform c w)
+unfolding perform onTable
+good-table c w h k = rw (true-of (wellFormed w) h) k
+
+module _ (w : List ℕ) where
+  -- 3
+  pub busy : (turn : Turn) → isAsked (table w) ≡ true → Replies (toldRefusal Busy) w (replyOf w (whenIdle (table w) turn))
+  unfolding whenIdle
+  busy turn e = rw e (refused-as w Busy)
+
+  pub idle : (turn : Turn) → isAsked (table w) ≡ false → {a : Told} {v : List ℕ} → Replies a v (replyOf w turn) → Replies a v (replyOf w (whenIdle (table w) turn))
+  unfolding whenIdle
+  idle turn e k = rw e k
+
+  -- 2
+  pub misnumbered : (turn : Turn) (ok : Bool) → ok ≡ false → Replies (toldRefusal BadNumber) w (replyOf w (whenNumbered ok turn))
+  unfolding whenNumbered
+  misnumbered turn ok e = rw e (refused-as w BadNumber)
+
+  pub numbered : (turn : Turn) (ok : Bool) → ok ≡ true → {a : Told} {v : List ℕ} → Replies a v (replyOf w turn) → Replies a v (replyOf w (whenNumbered ok turn))
+  unfolding whenNumbered
+  numbered turn ok e k = rw e k
+
+  -- 11
+  pub not-variable : (turn : Turn) (v : ℕ) → isAt (table w .store .entries) variable v ≡ false → Replies (toldRefusal NotAVariable) w (replyOf w (whenVariable (table w) v turn))
+  unfolding whenVariable
+  not-variable turn v e = rw e (refused-as w NotAVariable)
+
+  pub is-variable : (turn : Turn) (v : ℕ) → isAt (table w .store .entries) variable v ≡ true → {a : Told} {u : List ℕ} → Replies a u (replyOf w turn)
+      → Replies a u (replyOf w (whenVariable (table w) v turn))
+  unfolding whenVariable
+  is-variable turn v e k = rw e k
+
+-- entry numbers
+module _ (es : List Entry) where
+  pub no-entry : (n : ℕ) → length es ≤ n → isEntry es n ≡ false
+  unfolding isEntry
+  no-entry n h = le-ltb n (length es) h
+
+  pub an-entry : (n : ℕ) → n < length es → isEntry es n ≡ true
+  unfolding isEntry
+  an-entry n h = lt-ltb n (length es) h
+
+  pub two-entries : (a b : ℕ) → a < length es → b < length es → (isEntry es a && isEntry es b) ≡ true
+  two-entries a b h k = rw (an-entry a h, an-entry b k)
+
+  pub first-no-entry : (a b : ℕ) → length es ≤ a → (isEntry es a && isEntry es b) ≡ false
+  first-no-entry a b h = rw (no-entry a h)
+
+  pub second-no-entry : (a b : ℕ) → length es ≤ b → (isEntry es a && isEntry es b) ≡ false
+  second-no-entry a b h = rw (no-entry b h) (and-false (isEntry es a))
