@@ -1,0 +1,11 @@
+use Rattle.formed.proofs.one_component.Statement.{statement}
+use Rattle.formed.proofs.one_component.Tie as tie
+use Rattle.formed.proofs.one_component.Reads as reads
+use Rattle.formed.proofs.one_component.Lts as lts
+
+-- src/lib.rt:271:1
+returns : tie.Need-returns
+returns c = ?
+
+pub one-component-spec : {M : Type 1} → statement M
+one-component-spec = tie.close (tie.spec returns)

@@ -1,0 +1,11 @@
+use Rattle.formed.proofs.two_components.Statement.{statement}
+use Rattle.formed.proofs.two_components.Tie as tie
+use Rattle.formed.proofs.two_components.Reads as reads
+use Rattle.formed.proofs.two_components.Lts as lts
+
+-- src/lib.rt:277:1
+returns : tie.Need-returns
+returns c = ?
+
+pub two-components-spec : {M : Type 1} → statement M
+two-components-spec = tie.close (tie.spec returns)
