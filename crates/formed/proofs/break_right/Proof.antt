@@ -1,3 +1,7 @@
+use borrow.Author.Tests.{eq-eqb, ne-eqb}
+use Rattle.model.specs.Image.{table}
+use Rattle.model.specs.Formed.{isEntry, breakRight}
+use Rattle.image.proofs.Reading.{entries-count}
 use borrow.Author.Needs.{needs}
 use Rattle.formed.proofs.break_right.Statement.{statement}
 use Rattle.formed.proofs.break_right.Tie as tie
@@ -30,15 +34,21 @@ shared-slice-read-result c = search needs
 
 -- src/lib.rt:235:1
 returns : tie.Need-returns
-returns c = ?
+unfolding breakRight table
+returns c =
+    rw (eq-eqb _ _ (c .if1 .taken))
 
 -- src/lib.rt:235:1
 returns-2 : tie.Need-returns-2
-returns-2 c = ?
+unfolding breakRight isEntry table
+returns-2 c =
+    rw (ne-eqb _ _ (c .before .if1 .left), eq-eqb _ _ (c .if2 .taken), entries-count (c .before .before .before .before .before .before .before .args .image .now))
 
 -- src/lib.rt:235:1
 returns-3 : tie.Need-returns-3
-returns-3 c = ?
+unfolding breakRight isEntry table
+returns-3 c =
+    rw (ne-eqb _ _ (c .before .before .if1 .left), ne-eqb _ _ (c .before .if2 .left), entries-count (c .before .before .before .before .before .before .before .before .args .image .now))
 
 pub break-right-spec : {M : Type 1} → statement M
 break-right-spec =

@@ -1,3 +1,11 @@
+use mathlib.Core.Path.{_∙_}
+use mathlib.Core.List.{[], _∷_}
+use mathlib.Core.Bool.{_||_, _&&_}
+use lib.Dec.{ltb}
+use Rattle.model.specs.Lists.{_⇒_, allOf}
+use Rattle.model.specs.Formed.{oneComponent, twoComponents, hasDynamicType, componentsBelow}
+use Rattle.formed.specs.Grouped.{entryTold}
+use Rattle.formed.proofs.Tested.{joined-is, when-is}
 use borrow.Author.Needs.{needs}
 use Rattle.formed.proofs.components_below.Statement.{statement}
 use Rattle.formed.proofs.components_below.Tie as tie
@@ -21,7 +29,15 @@ has-dynamic-type-requires c κs = search needs
 
 -- src/lib.rt:303:1
 returns : tie.Need-returns
-returns c = ?
+unfolding componentsBelow
+returns c =
+    let i = c .before .before .before .before .before .before .args .i in
+    let w = c .before .before .before .before .before .before .args .e in
+    let e = entryTold w in
+    let some = oneComponent e || twoComponents e in
+    rw (c .before .before .before .before .one-component .ensures, c .before .before .before .before .before .two-components .ensures, c .before .has-dynamic-type .ensures)
+    ((λ j. when-is some (ltb (w .x) i) j && when-is (twoComponents e) (ltb (w .y) i) j && when-is (hasDynamicType e) (ltb (w .z) i) j)
+    ∙ joined-is (some ⇒ ltb (w .x) i) ((twoComponents e ⇒ ltb (w .y) i) ∷ (hasDynamicType e ⇒ ltb (w .z) i) ∷ []))
 
 pub components-below-spec : {M : Type 1} → statement M
 components-below-spec =

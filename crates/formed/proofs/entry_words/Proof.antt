@@ -35,7 +35,16 @@ entry-word-requires-7 c κs = search needs
 
 -- src/lib.rt:254:1
 returns : tie.Need-returns
-returns c = ?
+returns c =
+    λ j. record {
+      kind = c .before .before .before .before .before .before .entry-word .ensures j;
+      x = c .before .before .before .before .before .entry-word2 .ensures j;
+      y = c .before .before .before .before .entry-word3 .ensures j;
+      z = c .before .before .before .entry-word4 .ensures j;
+      flags = c .before .before .entry-word5 .ensures j;
+      spread = c .before .entry-word6 .ensures j;
+      negation = c .entry-word7 .ensures j;
+    }
 
 pub entry-words-spec : {M : Type 1} → statement M
 entry-words-spec =

@@ -1,3 +1,5 @@
+use Rattle.model.specs.Formed.{isEntry, fieldRight}
+use Rattle.image.proofs.Reading.{entries-count}
 use borrow.Author.Needs.{needs}
 use Rattle.formed.proofs.field_right.Statement.{statement}
 use Rattle.formed.proofs.field_right.Tie as tie
@@ -19,7 +21,9 @@ field-word-requires-2 c κs = search needs
 
 -- src/lib.rt:435:1
 returns : tie.Need-returns
-returns c = ?
+unfolding fieldRight isEntry
+returns c =
+    rw (c .before .before .field-word .ensures, c .field-word2 .ensures, entries-count (c .before .before .before .before .args .image .now))
 
 pub field-right-spec : {M : Type 1} → statement M
 field-right-spec =

@@ -1,3 +1,10 @@
+use mathlib.Core.List.{[], _∷_}
+use lib.ListN.{length}
+use borrow.Author.Tests.{le-leb, lt-leb}
+use Rattle.model.specs.Lists.{allOf}
+use Rattle.model.specs.Formed.{headerWhole, formatKnown, stateKnown, pendingWhenAsked, namesFew, functorKnown}
+use Rattle.formed.specs.Grouped.{headerRight}
+use Rattle.formed.proofs.Tested.{joined-is}
 use borrow.Author.Needs.{needs}
 use Rattle.formed.proofs.header_right.Statement.{statement}
 use Rattle.formed.proofs.header_right.Tie as tie
@@ -7,7 +14,9 @@ use Rattle.formed.proofs.pending_when_asked.Reads as pending-when-asked
 
 -- src/lib.rt:179:9
 returns : tie.Need-returns
-returns c = ?
+unfolding headerRight headerWhole allOf
+returns c =
+    rw (lt-leb _ _ (c .if1 .taken))
 
 -- src/lib.rt:181:6
 shared-slice-read-result : tie.Need-shared-slice-read-result
@@ -43,7 +52,11 @@ shared-slice-read-result-5 c = search needs
 
 -- src/lib.rt:175:1
 returns-2 : tie.Need-returns-2
-returns-2 c = ?
+unfolding headerRight headerWhole formatKnown stateKnown pendingWhenAsked namesFew functorKnown allOf
+returns-2 c =
+    let w = c .before .before .before .before .before .before .before .before .before .before .args .image .now in
+    rw (le-leb 27 (length w) (c .before .before .before .before .before .before .before .before .if1 .left), c .before .before .before .pending-when-asked .ensures)
+    (joined-is (formatKnown w) (stateKnown w ∷ pendingWhenAsked w ∷ namesFew w ∷ functorKnown w ∷ []))
 
 pub header-right-spec : {M : Type 1} → statement M
 header-right-spec =

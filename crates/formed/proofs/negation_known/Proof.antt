@@ -1,3 +1,5 @@
+use Rattle.model.specs.Formed.{negationKnown}
+use Rattle.image.proofs.Reading.{entries-count}
 use borrow.Author.Needs.{needs}
 use Rattle.formed.proofs.negation_known.Statement.{statement}
 use Rattle.formed.proofs.negation_known.Tie as tie
@@ -10,7 +12,9 @@ shared-slice-read-result c = search needs
 
 -- src/lib.rt:362:1
 returns : tie.Need-returns
-returns c = ?
+unfolding negationKnown
+returns c =
+    rw (entries-count (c .before .before .args .image .now))
 
 pub negation-known-spec : {M : Type 1} → statement M
 negation-known-spec = tie.close (tie.spec shared-slice-read-result returns)

@@ -1,3 +1,7 @@
+use lib.Dec.{eqb, leb}
+use Rattle.model.specs.Table.{is}
+use Rattle.model.specs.Formed.{primitiveKnown}
+use Rattle.formed.proofs.Tested.{when-is}
 use Rattle.formed.proofs.primitive_known.Statement.{statement}
 use Rattle.formed.proofs.primitive_known.Tie as tie
 use Rattle.formed.proofs.primitive_known.Reads as reads
@@ -5,7 +9,9 @@ use Rattle.formed.proofs.primitive_known.Lts as lts
 
 -- src/lib.rt:296:1
 returns : tie.Need-returns
-returns c = ?
+unfolding primitiveKnown is
+returns c =
+    let e = c .before .before .args .e in when-is (eqb (e .kind) 1) (leb (e .x) 7)
 
 pub primitive-known-spec : {M : Type 1} → statement M
 primitive-known-spec = tie.close (tie.spec returns)

@@ -1,3 +1,6 @@
+use native.Mathlib.Omega.{arith}
+use native.Mathlib.Nat.{mul-le-mul-right}
+use Rattle.model.specs.Formed.{regionEnd}
 use borrow.Author.Needs.{needs}
 use Rattle.formed.proofs.region_end.Statement.{statement}
 use Rattle.formed.proofs.region_end.Tie as tie
@@ -16,15 +19,19 @@ capacity-requires c κs = search needs
 
 -- src/lib.rt:160:24
 mul-result : tie.Need-mul-result
-mul-result c = ?
+mul-result c =
+    let m = mul-le-mul-right (c .capacity .result) (c .before .before .before .pre .1) in omega (arith, c .capacity .ensures .1)
 
 -- src/lib.rt:160:5
 add-result : tie.Need-add-result
-add-result c = ?
+add-result c =
+    let m = mul-le-mul-right (c .capacity .result) (c .before .before .before .pre .1) in omega (arith, c .capacity .ensures .1, c .before .offset .ensures .1)
 
 -- src/lib.rt:155:1
 returns : tie.Need-returns
-returns c = ?
+unfolding regionEnd
+returns c =
+    rw (c .capacity .ensures .0, c .before .offset .ensures .0)
 
 pub region-end-spec : {M : Type 1} → statement M
 region-end-spec =

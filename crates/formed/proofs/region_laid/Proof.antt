@@ -1,3 +1,9 @@
+use mathlib.Core.List.{[], _∷_}
+use lib.Dec.{eqb, leb}
+use Rattle.model.specs.Lists.{allOf}
+use Rattle.model.specs.Image.{offset, capacity, count}
+use Rattle.formed.specs.Grouped.{regionLaid}
+use Rattle.formed.proofs.Tested.{joined-is}
 use borrow.Author.Needs.{needs}
 use Rattle.formed.proofs.region_laid.Statement.{statement}
 use Rattle.formed.proofs.region_laid.Tie as tie
@@ -21,7 +27,12 @@ count-requires c κs = search needs
 
 -- src/lib.rt:189:1
 returns : tie.Need-returns
-returns c = ?
+unfolding regionLaid allOf
+returns c =
+    let a = c .before .before .before .before .args in
+    let w = a .image .now in
+    rw (c .before .before .capacity .ensures .0, c .before .offset .ensures .0, c .count .ensures .0)
+    (joined-is (eqb (offset w (a .k)) (a .at)) (leb (capacity w (a .k)) (a .most) ∷ leb (count w (a .k)) (capacity w (a .k)) ∷ []))
 
 pub region-laid-spec : {M : Type 1} → statement M
 region-laid-spec = tie.close (tie.spec capacity-requires offset-requires count-requires returns)

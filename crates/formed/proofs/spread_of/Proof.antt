@@ -1,3 +1,5 @@
+use borrow.Author.Tests.{le-leb, lt-leb}
+use Rattle.model.specs.Making.{spreadOf}
 use borrow.Author.Needs.{needs}
 use Rattle.formed.proofs.spread_of.Statement.{statement}
 use Rattle.formed.proofs.spread_of.Tie as tie
@@ -31,15 +33,21 @@ add-result-3 c = search needs
 
 -- src/lib.rt:342:1
 returns : tie.Need-returns
-returns c = ?
+unfolding spreadOf
+returns c =
+    rw (le-leb _ _ (c .if1 .taken))
 
 -- src/lib.rt:342:1
 returns-2 : tie.Need-returns-2
-returns-2 c = ?
+unfolding spreadOf
+returns-2 c =
+    rw (lt-leb _ _ (c .before .before .if1 .left), le-leb _ _ (c .before .if2 .taken), c .spread-at .ensures .0)
 
 -- src/lib.rt:342:1
 returns-3 : tie.Need-returns-3
-returns-3 c = ?
+unfolding spreadOf
+returns-3 c =
+    rw (lt-leb _ _ (c .before .before .before .if1 .left), lt-leb _ _ (c .before .before .if2 .left), c .before .spread-at2 .ensures .0, c .spread-at3 .ensures .0)
 
 pub spread-of-spec : {M : Type 1} → statement M
 spread-of-spec =

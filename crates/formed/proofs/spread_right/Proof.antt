@@ -1,3 +1,4 @@
+use Rattle.model.specs.Formed.{spreadRight}
 use borrow.Author.Needs.{needs}
 use Rattle.formed.proofs.spread_right.Statement.{statement}
 use Rattle.formed.proofs.spread_right.Tie as tie
@@ -16,7 +17,9 @@ spread-of-requires c κs = search needs
 
 -- src/lib.rt:355:1
 returns : tie.Need-returns
-returns c = ?
+unfolding spreadRight
+returns c =
+    rw (c .before .before .wide .ensures .0, c .before .spread-of .ensures)
 
 pub spread-right-spec : {M : Type 1} → statement M
 spread-right-spec = tie.close (tie.spec wide-requires spread-of-requires returns)

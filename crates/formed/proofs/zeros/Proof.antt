@@ -1,41 +1,58 @@
+use Prim.Native.Nat.{ℕ, _≤_, _-_}
+use native.Mathlib.Omega.{arith}
+use mathlib.Core.Path.{_≡_, refl, sym, _∙_}
+use lib.ListN.{length, take}
+use borrow.Author.Needs.{needs}
+use Rattle.model.specs.Lists.{isZero, all}
+use Rattle.formed.proofs.Walked.{all-step, all-end}
 use Rattle.formed.proofs.zeros.Statement.{statement}
 use Rattle.formed.proofs.zeros.Tie as tie
 use Rattle.formed.proofs.zeros.Reads as reads
 use Rattle.formed.proofs.zeros.Lts as lts
 
 abbrev Inv-loop : tie.InvT-loop
-Inv-loop part ok₀ i₀ ok i = ?
+Inv-loop part ok₀ i₀ ok i = (i ≤ length part) × (ok ≡ all isZero (take i part))
 
 abbrev μ-loop : tie.MeasureT-loop
-μ-loop part ok₀ i₀ ok i = ?
+μ-loop part ok₀ i₀ ok i = length part - i
 
 -- src/lib.rt:112:5
 loop-holds : tie.Need-loop-holds Inv-loop μ-loop
-loop-holds c = ?
+unfolding all
+loop-holds c =
+    (search needs, refl)
 
 -- src/lib.rt:113:20
 mul-ok : tie.Need-mul-ok Inv-loop μ-loop
-mul-ok c = ?
+mul-ok c =
+    search needs
 
 -- src/lib.rt:113:20
 shared-slice-read-ok : tie.Need-shared-slice-read-ok Inv-loop μ-loop
-shared-slice-read-ok c = ?
+shared-slice-read-ok c =
+    search needs
 
 -- src/lib.rt:114:9
 add-i : tie.Need-add-i Inv-loop μ-loop
-add-i c = ?
+add-i c =
+    search needs
 
 -- src/lib.rt:112:5
 loop-less : tie.Need-loop-less Inv-loop μ-loop
-loop-less c = ?
+loop-less c =
+    search needs
 
 -- src/lib.rt:112:5
 loop-again : tie.Need-loop-again Inv-loop μ-loop
-loop-again c = ?
+loop-again c =
+    let l = c .before .before .loop in
+    (omega arith, rw (l .inv .1) (sym (all-step isZero 0 (c .before .before .before .args .part .now) (l .i) (c .before .loop-test .taken))))
 
 -- src/lib.rt:107:1
 returns : tie.Need-returns Inv-loop μ-loop
-returns c = ?
+returns c =
+    let l = c .before .loop in
+    l .inv .1 ∙ all-end isZero 0 (c .before .before .args .part .now) (l .i) (c .loop-test .left)
 
 pub zeros-spec : {M : Type 1} → statement M
 zeros-spec =
