@@ -71,5 +71,6 @@ module _ (names i : ℕ) where
     unfolding ownFrom
     own-end ok least k h le =
         let n = own-length in
-        let e : drop k (take fields (drop first all-fields)) ≡ [] = drop-of-length-le _ (omega arith) in
+        let past : length (take fields (drop first all-fields)) ≤ k = omega arith in
+        let e : drop k (take fields (drop first all-fields)) ≡ [] = drop-of-length-le (take fields (drop first all-fields)) past in
         sym (h ∙ ap (λ (m : List Field). ok && ownFrom least m) e ∙ and-true ok)

@@ -7,7 +7,7 @@ use mathlib.Core.List.{List, [], _∷_}
 use mathlib.Core.Bool.{Bool, true, _&&_, and-true, and-assoc}
 use lib.ListN.{length, take, drop, length-drop}
 use lib.Dec.{T, eqb, leb, ltb}
-use Rattle.model.specs.Lists.{allOf, all}
+use Rattle.model.specs.Lists.{isZero, allOf, all}
 use Rattle.model.specs.Format.{wordEnd, headerWords, entriesRegion, fieldsRegion, boundsRegion, visitedRegion, pendingRegion, equalsRegion}
 use Rattle.model.specs.Format.{entryWidth, fieldWidth, boundWidth, visitedWidth, pendingWidth, equalsWidth}
 use Rattle.model.specs.Image.{word, offset, capacity, count, pairOf, recordsOf, table}
@@ -80,25 +80,23 @@ module _ (ws : List ℕ) where
         end = sym (eq-of _ _ (nth _ 6 h));
       }
 
--- the words of region k past its count
-module _ (ws : List ℕ) (k width : ℕ) (r : RegionInside ws k width) where
-  pub count-inside : offset ws k + width * count ws k ≤ regionEnd ws k width
+-- region k's words, from a start to an end as code finds them
+module _ (ws : List ℕ) (k width : ℕ) (r : RegionInside ws k width) (o n e : ℕ) (p : o ≡ offset ws k) (q : n ≡ count ws k) (s : e ≡ regionEnd ws k width) where
+  pub rest-inside : (o + width * n ≤ e) × (e ≤ length ws)
   unfolding regionEnd
-  count-inside = let e = mul-le-mul-left width (r .held) in omega arith
+  rest-inside = let m : width * n ≤ width * capacity ws k = rw q (mul-le-mul-left width (r .held)) in (omega arith, omega arith)
 
-  pub rest-part : take (regionEnd ws k width - (offset ws k + width * count ws k)) (drop (offset ws k + width * count ws k) ws)
-      ≡ take (width * (capacity ws k - count ws k)) (drop (offset ws k + width * count ws k) ws)
-  unfolding regionEnd
-  rest-part =
-      let e = parts width (count ws k) (capacity ws k) (r .held) in
-      let n : offset ws k + width * capacity ws k - (offset ws k + width * count ws k) ≡ width * (capacity ws k - count ws k) = omega arith in
-      rw n
+  pub rest-is : all isZero (take (e - (o + width * n)) (drop (o + width * n) ws)) ≡ restZero ws k width
+  unfolding restZero regionEnd
+  rest-is =
+      let m = parts width (count ws k) (capacity ws k) (r .held) in
+      let size : offset ws k + width * capacity ws k - (offset ws k + width * count ws k) ≡ width * (capacity ws k - count ws k) = omega arith in
+      rw (p, q, s, size)
 
 -- the pairs of region k, by their words
-pub pairs-part : (ws : List ℕ) (k : ℕ) → RegionInside ws k 2
-    → all (λ x. ltb x (count ws entriesRegion)) (take (offset ws k + 2 * count ws k - offset ws k) (drop (offset ws k) ws))
-    ≡ all (pairRight (entriesOf ws)) (recordsOf pairOf 2 ws k)
+pub pairs-part : (ws : List ℕ) (k : ℕ) → RegionInside ws k 2 → (o n : ℕ) → o ≡ offset ws k → n ≡ count ws k
+    → all (λ x. ltb x (count ws entriesRegion)) (take (o + 2 * n - o) (drop o ws)) ≡ all (pairRight (entriesOf ws)) (recordsOf pairOf 2 ws k)
 unfolding recordsOf
-pairs-part ws k r =
-    let n : offset ws k + 2 * count ws k - offset ws k ≡ 2 * count ws k = omega arith in
-    rw (n, ← entries-count ws) (pairs-are (entriesOf ws) (count ws k) (drop (offset ws k) ws) (rw length-drop (omega arith)))
+pairs-part ws k r o n p q =
+    let size : offset ws k + 2 * count ws k - offset ws k ≡ 2 * count ws k = omega arith in
+    rw (p, q, size, ← entries-count ws) (pairs-are (entriesOf ws) (count ws k) (drop (offset ws k) ws) (rw length-drop (omega arith)))

@@ -1,3 +1,17 @@
+use Prim.Native.Nat.{_+_}
+use native.Mathlib.Omega.{arith}
+use mathlib.Core.Path.{sym, ap}
+use mathlib.Core.Bool.{Bool, _&&_, and-true}
+use lib.ListN.{length}
+use lib.Dec.{ltb}
+use borrow.Author.Tests.{eq-eqb, ne-eqb, le-leb, lt-leb}
+use Rattle.model.specs.Lists.{allOf, all}
+use Rattle.model.specs.Table.{is}
+use Rattle.model.specs.Shapes.{fieldsOf}
+use Rattle.model.specs.Formed.{namesAscend, fieldsRight}
+use Rattle.image.specs.Shown.{storeOf, fieldsIn}
+use Rattle.image.proofs.Reading.{fields-count}
+use Rattle.formed.specs.Grouped.{entryTold, ownRight}
 use borrow.Author.Needs.{needs}
 use Rattle.formed.proofs.attrset_right.Statement.{statement}
 use Rattle.formed.proofs.attrset_right.Tie as tie
@@ -8,7 +22,9 @@ use Rattle.formed.proofs.wide.Reads as wide-reads
 
 -- src/lib.rt:396:9
 returns : tie.Need-returns
-returns c = ?
+unfolding fieldsRight is
+returns c =
+    rw (ne-eqb _ _ (c .if1 .taken))
 
 -- src/lib.rt:398:13
 shared-slice-read-wide : tie.Need-shared-slice-read-wide
@@ -32,15 +48,30 @@ add-if2 c = search needs
 
 -- src/lib.rt:399:9
 returns-2 : tie.Need-returns-2
-returns-2 c = ?
+unfolding fieldsRight is allOf
+returns-2 c =
+    let a = c .before .before .before .before .before .before .before .before .args in
+    let w = a .image .now in
+    let n = fields-count w in
+    rw (eq-eqb _ _ (c .before .before .before .before .before .if1 .left), lt-leb (a .e .x + a .e .y) (length (fieldsIn w)) (omega arith))
 
 -- src/lib.rt:401:5
 own-right-requires : tie.Need-own-right-requires
-own-right-requires c κs = ?
+own-right-requires c κs =
+    let s = c .before .before .before .before .before .before .before .before in
+    let n = fields-count (s .args .image .now) in
+    (s .pre, omega arith)
 
 -- src/lib.rt:391:1
 returns-3 : tie.Need-returns-3
-returns-3 c = ?
+unfolding fieldsRight is allOf fieldsOf ownRight
+returns-3 c =
+    let a = c .before .before .before .before .before .before .before .before .before .args in
+    let w = a .image .now in
+    let n = fields-count w in
+    let own = fieldsOf (fieldsIn w) (entryTold (a .e)) in
+    rw (eq-eqb _ _ (c .before .before .before .before .before .before .if1 .left), le-leb (a .e .x + a .e .y) (length (fieldsIn w)) (omega arith), c .own-right .ensures)
+    (ap (λ (t : Bool). namesAscend (storeOf w .names) own && t) (sym (and-true (all (λ f. ltb (f .entry) (a .i)) own))))
 
 pub attrset-right-spec : {M : Type 1} → statement M
 attrset-right-spec =

@@ -1,3 +1,5 @@
+use mathlib.Core.Path.{_∙_}
+use Rattle.formed.proofs.Whole.{pairs-part}
 use borrow.Author.Needs.{needs}
 use Rattle.formed.proofs.pairs_right.Statement.{statement}
 use Rattle.formed.proofs.pairs_right.Tie as tie
@@ -49,7 +51,10 @@ below-requires c κs = search needs
 
 -- src/lib.rt:495:1
 returns : tie.Need-returns
-returns c = ?
+returns c =
+    let s = c .before .before .before .before .before .before in
+    let a = s .args in
+    c .below .ensures ∙ pairs-part (a .image .now) (a .k) (s .pre) _ _ (c .before .before .before .before .offset .ensures .0) (c .before .before .before .count .ensures .0)
 
 pub pairs-right-spec : {M : Type 1} → statement M
 pairs-right-spec =

@@ -1,3 +1,9 @@
+use Prim.Native.Nat.{_+_, _*_, _≤_}
+use native.Mathlib.Omega.{arith}
+use native.Mathlib.Nat.{mul-le-mul-right}
+use mathlib.Core.Path.{_∙_}
+use lib.ListN.{length}
+use Rattle.formed.proofs.Whole.{rest-inside, rest-is}
 use borrow.Author.Needs.{needs}
 use Rattle.formed.proofs.rest_zero.Statement.{statement}
 use Rattle.formed.proofs.rest_zero.Tie as tie
@@ -18,31 +24,44 @@ count-requires c κs = search needs
 
 -- src/lib.rt:216:36
 mul-start : tie.Need-mul-start
-mul-start c = ?
+mul-start c =
+    let m = mul-le-mul-right (c .count .result) (c .before .before .before .pre .narrow) in omega (arith, c .count .ensures .1)
 
 -- src/lib.rt:216:17
 add-start : tie.Need-add-start
-add-start c = ?
+add-start c =
+    let m = mul-le-mul-right (c .count .result) (c .before .before .before .pre .narrow) in omega (arith, c .count .ensures .1, c .before .offset .ensures .1)
 
 -- src/lib.rt:217:9
 region-end-requires : tie.Need-region-end-requires
 region-end-requires c κs = search needs
 
+-- the part's start is at most its end, and that at most the length
+inside : (c : tie.After-region-end) → (c .before .before .offset .result + c .before .before .before .before .args .width * c .before .count .result ≤ c .region-end .result) × (c .region-end .result ≤ length (c .before .before .before .before .args .image .now))
+inside c =
+    let s = c .before .before .before .before in
+    let a = s .args in
+    rest-inside (a .image .now) (a .k) (a .width) (s .pre) _ _ _ (c .before .before .offset .ensures .0) (c .before .count .ensures .0) (c .region-end .ensures)
+
 -- src/lib.rt:218:11
 mul-zeros : tie.Need-mul-zeros
-mul-zeros c = ?
+mul-zeros c =
+    let h = inside c in omega arith
 
 -- src/lib.rt:218:11
 sub-zeros : tie.Need-sub-zeros
-sub-zeros c = ?
+sub-zeros c =
+    let h = inside c in omega arith
 
 -- src/lib.rt:218:11
 part-zeros-start : tie.Need-part-zeros-start
-part-zeros-start c = ?
+part-zeros-start c =
+    inside c .0
 
 -- src/lib.rt:218:11
 part-zeros-end : tie.Need-part-zeros-end
-part-zeros-end c = ?
+part-zeros-end c =
+    inside c .1
 
 -- src/lib.rt:218:5
 zeros-requires : tie.Need-zeros-requires
@@ -50,7 +69,10 @@ zeros-requires c κs = search needs
 
 -- src/lib.rt:212:1
 returns : tie.Need-returns
-returns c = ?
+returns c =
+    let s = c .before .before .before .before .before .before in
+    let a = s .args in
+    c .zeros .ensures ∙ rest-is (a .image .now) (a .k) (a .width) (s .pre) _ _ _ (c .before .before .before .before .offset .ensures .0) (c .before .before .before .count .ensures .0) (c .before .before .region-end .ensures)
 
 pub rest-zero-spec : {M : Type 1} → statement M
 rest-zero-spec =
