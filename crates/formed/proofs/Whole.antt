@@ -6,9 +6,11 @@ use mathlib.Core.Path.{_≡_, refl, sym, ap, _∙_}
 use mathlib.Core.List.{List, [], _∷_}
 use mathlib.Core.Bool.{Bool, true, _&&_, and-true, and-assoc}
 use lib.ListN.{length, take, drop, length-drop}
+use mir.Syntax.{w32}
+use mir.Val.{Fits}
 use lib.Dec.{T, eqb, leb, ltb}
 use Rattle.model.specs.Lists.{isZero, allOf, all}
-use Rattle.model.specs.Format.{wordEnd, headerWords, entriesRegion, fieldsRegion, boundsRegion, visitedRegion, pendingRegion, equalsRegion}
+use Rattle.model.specs.Format.{headerWords, entriesRegion, fieldsRegion, boundsRegion, visitedRegion, pendingRegion, equalsRegion}
 use Rattle.model.specs.Format.{entryWidth, fieldWidth, boundWidth, visitedWidth, pendingWidth, equalsWidth}
 use Rattle.model.specs.Image.{word, offset, capacity, count, pairOf, recordsOf, table}
 use Rattle.model.specs.Formed.{wordsFit, headerWhole, formatKnown, stateKnown, pendingWhenAsked, namesFew, functorKnown, regionEnd, restZero, regionRight, regionsRight, pairRight, recordsRight, wellFormed}
@@ -42,12 +44,12 @@ regions-split ws =
     (record { is = sym (and-true (eqb (regionEnd ws equalsRegion equalsWidth) (length ws) && true)) }))))))
 
 module _ (ws : List ℕ) where
-  words-fit : ((i : ℕ) → word ws i < wordEnd) → wordsFit ws ≡ true
+  words-fit : ((i : ℕ) → Fits w32 (word ws i)) → wordsFit ws ≡ true
   unfolding wordsFit
-  words-fit h = true-of _ (all-of _ 0 ws (λ i lt. of-lt _ _ (h i)))
+  words-fit h = true-of _ (all-of _ 0 ws (λ i lt. of-lt _ _ (h i .fits)))
 
-  -- the groups, one after the other, of words that fit
-  pub formed-is : ((i : ℕ) → word ws i < wordEnd) → wellFormed ws ≡ (headerRight ws && (regionsLaid ws && (restsZero ws && recordsRight (table ws))))
+  -- the groups, one after the other, of a lent slice's words
+  pub formed-is : ((i : ℕ) → Fits w32 (word ws i)) → wellFormed ws ≡ (headerRight ws && (regionsLaid ws && (restsZero ws && recordsRight (table ws))))
   unfolding wellFormed headerRight allOf
   formed-is h =
       rw (words-fit h)

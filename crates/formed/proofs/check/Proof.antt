@@ -1,3 +1,6 @@
+use Rattle.image.specs.Laid.{Laid}
+use Rattle.formed.proofs.Tested.{passed, failed}
+use Rattle.formed.proofs.Whole.{formed-is, header-whole, regions-laid}
 use borrow.Author.Needs.{needs}
 use Rattle.formed.proofs.check.Statement.{statement}
 use Rattle.formed.proofs.check.Tie as tie
@@ -14,27 +17,49 @@ header-right-requires c κs = search needs
 
 -- src/lib.rt:523:9
 returns : tie.Need-returns
-returns c = ?
+returns c =
+    rw (formed-is (c .before .before .before .args .image .now) (c .before .before .shared-slice-known .given), failed (c .before .header-right .ensures) (c .if1 .taken))
 
 -- src/lib.rt:525:9
 regions-laid-requires : tie.Need-regions-laid-requires
-regions-laid-requires c κs = ?
+regions-laid-requires c κs =
+    header-whole _ (passed (c .before .header-right .ensures) (c .if1 .left))
 
 -- src/lib.rt:526:9
 returns-2 : tie.Need-returns-2
-returns-2 c = ?
+returns-2 c =
+    rw (
+      formed-is (c .before .before .before .before .before .args .image .now) (c .before .before .before .before .shared-slice-known .given),
+      passed (c .before .before .before .header-right .ensures) (c .before .before .if1 .left),
+      failed (c .before .regions-laid .ensures) (c .if2 .taken),
+    )
+
+laid : (c : tie.Else2) → Laid (c .before .before .before .before .before .args .image .now)
+laid c =
+    regions-laid _
+    (header-whole _ (passed (c .before .before .before .header-right .ensures) (c .before .before .if1 .left)))
+    (passed (c .before .regions-laid .ensures) (c .if2 .left))
 
 -- src/lib.rt:528:5
 rests-zero-requires : tie.Need-rests-zero-requires
-rests-zero-requires c κs = ?
+rests-zero-requires c κs =
+    laid c
 
 -- src/lib.rt:528:25
 records-right-requires : tie.Need-records-right-requires
-records-right-requires c κs = ?
+records-right-requires c κs =
+    laid (c .before)
 
 -- src/lib.rt:519:1
 returns-3 : tie.Need-returns-3
-returns-3 c = ?
+returns-3 c =
+    rw (
+      formed-is (c .before .before .before .before .before .before .before .args .image .now) (c .before .before .before .before .before .before .shared-slice-known .given),
+      passed (c .before .before .before .before .before .header-right .ensures) (c .before .before .before .before .if1 .left),
+      passed (c .before .before .before .regions-laid .ensures) (c .before .before .if2 .left),
+      c .before .rests-zero .ensures,
+      c .records-right .ensures,
+    )
 
 pub check-spec : {M : Type 1} → statement M
 check-spec =

@@ -1,3 +1,9 @@
+use mathlib.Core.List.{[], _∷_}
+use Rattle.model.specs.Lists.{all, allFrom}
+use Rattle.model.specs.Image.{table}
+use Rattle.model.specs.Formed.{pairRight, breakRight, entryRight, fieldRight, boundRight, recordsRight}
+use Rattle.image.specs.Shown.{storeOf, entriesOf, fieldsIn, boundsAll, visitedIn, pendingIn, equalsIn}
+use Rattle.formed.proofs.Tested.{joined-is}
 use borrow.Author.Needs.{needs}
 use Rattle.formed.proofs.records_right.Statement.{statement}
 use Rattle.formed.proofs.records_right.Tie as tie
@@ -39,7 +45,27 @@ pairs-right-requires-3 c κs = search needs
 
 -- src/lib.rt:505:1
 returns : tie.Need-returns
-returns c = ?
+unfolding recordsRight table
+returns c =
+    let w = c .before .before .before .before .before .before .before .before .args .image .now in
+    let es = entriesOf w in
+    rw (
+      c .before .before .before .before .before .before .break-right .ensures,
+      c .before .before .before .before .before .entries-right .ensures,
+      c .before .before .before .before .fields-right .ensures,
+      c .before .before .before .bounds-right .ensures,
+      c .before .before .pairs-right .ensures,
+      c .before .pairs-right2 .ensures,
+      c .pairs-right3 .ensures,
+    )
+    (joined-is (breakRight (storeOf w))
+    (allFrom (entryRight es (fieldsIn w) (storeOf w .names)) 0 es
+    ∷ all (fieldRight es) (fieldsIn w)
+    ∷ all (boundRight es) (boundsAll w)
+    ∷ all (pairRight es) (visitedIn w)
+    ∷ all (pairRight es) (pendingIn w)
+    ∷ all (pairRight es) (equalsIn w)
+    ∷ []))
 
 pub records-right-spec : {M : Type 1} → statement M
 records-right-spec =
