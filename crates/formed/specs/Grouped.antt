@@ -11,7 +11,8 @@ use Rattle.model.specs.Format.{entryWidth, fieldWidth, boundWidth, visitedWidth
 use Rattle.model.specs.Format.{entriesMost, fieldsMost, boundsMost, visitedMost, pendingMost, equalsMost}
 use Rattle.model.specs.Table.{Entry, Field}
 use Rattle.model.specs.Image.{offset, capacity, count}
-use Rattle.model.specs.Formed.{headerWhole, formatKnown, stateKnown, pendingWhenAsked, namesFew, functorKnown, regionEnd, restZero, namesAscend}
+use Rattle.model.specs.Formed.{headerWhole, formatKnown, stateKnown, pendingWhenAsked, namesFew, functorKnown, regionEnd, restZero, namesAscend, entryRight}
+use Rattle.image.specs.Shown.{storeOf, entriesOf, fieldsIn}
 use Rattle.formed.specs.declared.EntryWords.{EntryWords}
 
 unfoldable pub headerRight : List ℕ → Bool
@@ -61,3 +62,7 @@ entryTold e = record { kind = e .kind; x = e .x; y = e .y; z = e .z; flags = e .
 -- an attrset's own fields, where they lie inside the field count
 unfoldable pub ownRight : ℕ → ℕ → List Field → Bool
 ownRight names i fs = namesAscend names fs && all (λ f. ltb (f .entry) i) fs
+
+-- the model's test of an entry, in the table that is read off words
+abbrev pub entryRightIn : List ℕ → ℕ → Entry → Bool
+entryRightIn ws = entryRight (entriesOf ws) (fieldsIn ws) (storeOf ws .names)

@@ -11,13 +11,13 @@ ghost use Rattle.model.specs.Format.{wordEnd, headerWords, idle, variable};
 ghost use Rattle.model.specs.Table.{entryAt, isAt};
 ghost use Rattle.model.specs.Image.{offset, capacity, count, pairOf, recordsOf, table};
 ghost use Rattle.model.specs.Making.{spreadAt, spreadOf};
-ghost use Rattle.model.specs.Formed.{regionEnd, restZero, isEntry, pairRight, breakRight, oneComponent, twoComponents, hasDynamicType, kindKnown, primitiveKnown, componentsBelow, unusedZero, flagsKnown, spreadRight, negationKnown, fieldsRight, entryRight, fieldRight, boundRight, recordsRight, wellFormed};
+ghost use Rattle.model.specs.Formed.{regionEnd, restZero, isEntry, pairRight, breakRight, oneComponent, twoComponents, hasDynamicType, kindKnown, primitiveKnown, componentsBelow, unusedZero, flagsKnown, spreadRight, negationKnown, fieldsRight, fieldRight, boundRight, recordsRight, wellFormed};
 ghost use Rattle.image.specs.Laid.{Laid};
 ghost use Rattle.image.specs.Shown.{storeOf, entriesOf, fieldsIn, boundsAll};
 ghost use Rattle.image.specs.Records.{fieldAt, boundAt};
-ghost use Rattle.formed.specs.Grouped.{headerRight, regionLaid, regionsLaid, RegionInside, restsZero, entryTold, ownRight};
+ghost use Rattle.formed.specs.Grouped.{headerRight, regionLaid, regionsLaid, RegionInside, restsZero, entryTold, ownRight, entryRightIn};
 
-// The header's words, by their places. Region k, from 1, has its offset, capacity and count from 6 + 3k on.
+// The header's words, by their places. Region k, from 1, has its offset, capacity and count at 6, 7 and 8 + 3k.
 const FORMAT_AT: usize = 0;
 
 const STATE_AT: usize = 1;
@@ -34,13 +34,40 @@ const NAMES_AT: usize = 7;
 
 const FUNCTOR_AT: usize = 8;
 
-const FIELDS_COUNT: usize = 14;
+const ENTRIES_COUNT_AT: usize = 11;
 
-const BOUNDS_COUNT: usize = 17;
+const FIELDS_COUNT_AT: usize = 14;
 
-const PENDING_COUNT: usize = 23;
+const BOUNDS_COUNT_AT: usize = 17;
 
-// What the words may say.
+const PENDING_COUNT_AT: usize = 23;
+
+// The regions, and the most records that each may have.
+const ENTRIES: usize = 1;
+
+const FIELDS: usize = 2;
+
+const BOUNDS: usize = 3;
+
+const VISITED: usize = 4;
+
+const PENDING: usize = 5;
+
+const EQUALS: usize = 6;
+
+const ENTRIES_MOST: u32 = 4096;
+
+const FIELDS_MOST: u32 = 16384;
+
+const BOUNDS_MOST: u32 = 65536;
+
+const VISITED_MOST: u32 = 65536;
+
+const PENDING_MOST: u32 = 65536;
+
+const EQUALS_MOST: u32 = 65536;
+
+// What the header may say.
 const FORMAT: u32 = 1;
 
 const IDLE: u32 = 0;
@@ -55,9 +82,11 @@ const FIELD_MISSING: u32 = 2;
 
 const NAMES_MOST: u32 = 4096;
 
-const SPREAD_MOST: u32 = 1024;
+// What an entry's words may say: its kind, the last primitive, its flags and spread.
+const KIND_WORD: usize = 0;
 
-// Kinds.
+const SPREAD_WORD: usize = 5;
+
 const VARIABLE: u32 = 0;
 
 const PRIMITIVE: u32 = 1;
@@ -76,13 +105,15 @@ const INTER: u32 = 7;
 
 const UNION: u32 = 8;
 
-// The last primitive; the flags of an attrset all set, and those of any other kind; the upper side.
 const NUMBER: u32 = 7;
-
-const FLAGS_MOST: u32 = 7;
 
 const MARK_FLAG: u32 = 1;
 
+const ATTRSET_FLAGS: u32 = MARK_FLAG + image::OPEN_FLAG + image::DYNAMIC_FLAG;
+
+const SPREAD_MOST: u32 = 1024;
+
+// A bound's upper side.
 const UPPER: u32 = 1;
 
 // An entry's words.
@@ -180,18 +211,18 @@ fn header_right(image: &[u32]) -> bool
     }
     (image[FORMAT_AT] == FORMAT)
         & (image[STATE_AT] <= ASKED)
-        & pending_when_asked(image[STATE_AT], image[PENDING_COUNT])
+        & pending_when_asked(image[STATE_AT], image[PENDING_COUNT_AT])
         & (image[NAMES_AT] <= NAMES_MOST)
         & (image[FUNCTOR_AT] <= image[NAMES_AT])
 }
 
 // Whether region k starts at a word, its capacity is within a maximum, and its count within its capacity.
-fn region_laid(image: &[u32], k: usize, most: usize, at: usize) -> bool
+fn region_laid(image: &[u32], k: usize, most: u32, at: usize) -> bool
     requires { ⌜ (headerWords ≤ length (now image)) × (k ≤ 6) ⌝ }
     ensures { λ r. ⌜ r ≡ regionLaid (now (image .entry)) k most at ⌝ }
 {
     let size = capacity(image, k);
-    (offset(image, k) == at) & (size <= most) & (count(image, k) <= size)
+    (offset(image, k) == at) & (size <= wide(most)) & (count(image, k) <= size)
 }
 
 // Whether the six regions follow the header without gaps, and end at the slice's end.
@@ -199,13 +230,38 @@ fn regions_laid(image: &[u32]) -> bool
     requires { ⌜ headerWords ≤ length (now image) ⌝ }
     ensures { λ r. ⌜ r ≡ regionsLaid (now (image .entry)) ⌝ }
 {
-    region_laid(image, 1, 4096, image::HEADER_WORDS)
-        & region_laid(image, 2, 16384, region_end(image, 1, image::ENTRY_WIDTH))
-        & region_laid(image, 3, 65536, region_end(image, 2, image::FIELD_WIDTH))
-        & region_laid(image, 4, 65536, region_end(image, 3, image::BOUND_WIDTH))
-        & region_laid(image, 5, 65536, region_end(image, 4, image::VISITED_WIDTH))
-        & region_laid(image, 6, 65536, region_end(image, 5, image::PENDING_WIDTH))
-        & (region_end(image, 6, image::EQUALS_WIDTH) == image.len())
+    region_laid(image, ENTRIES, ENTRIES_MOST, image::HEADER_WORDS)
+        & region_laid(
+            image,
+            FIELDS,
+            FIELDS_MOST,
+            region_end(image, ENTRIES, image::ENTRY_WIDTH),
+        )
+        & region_laid(
+            image,
+            BOUNDS,
+            BOUNDS_MOST,
+            region_end(image, FIELDS, image::FIELD_WIDTH),
+        )
+        & region_laid(
+            image,
+            VISITED,
+            VISITED_MOST,
+            region_end(image, BOUNDS, image::BOUND_WIDTH),
+        )
+        & region_laid(
+            image,
+            PENDING,
+            PENDING_MOST,
+            region_end(image, VISITED, image::VISITED_WIDTH),
+        )
+        & region_laid(
+            image,
+            EQUALS,
+            EQUALS_MOST,
+            region_end(image, PENDING, image::PENDING_WIDTH),
+        )
+        & (region_end(image, EQUALS, image::EQUALS_WIDTH) == image.len())
 }
 
 // Whether all words of region k past its count are 0.
@@ -223,12 +279,12 @@ fn rests_zero(image: &[u32]) -> bool
     requires { ⌜ Laid (now image) ⌝ }
     ensures { λ r. ⌜ r ≡ restsZero (now (image .entry)) ⌝ }
 {
-    rest_zero(image, 1, image::ENTRY_WIDTH)
-        & rest_zero(image, 2, image::FIELD_WIDTH)
-        & rest_zero(image, 3, image::BOUND_WIDTH)
-        & rest_zero(image, 4, image::VISITED_WIDTH)
-        & rest_zero(image, 5, image::PENDING_WIDTH)
-        & rest_zero(image, 6, image::EQUALS_WIDTH)
+    rest_zero(image, ENTRIES, image::ENTRY_WIDTH)
+        & rest_zero(image, FIELDS, image::FIELD_WIDTH)
+        & rest_zero(image, BOUNDS, image::BOUND_WIDTH)
+        & rest_zero(image, VISITED, image::VISITED_WIDTH)
+        & rest_zero(image, PENDING, image::PENDING_WIDTH)
+        & rest_zero(image, EQUALS, image::EQUALS_WIDTH)
 }
 
 // Whether the break words say no more than their kind has: nothing, a pair, or a pair and a name.
@@ -240,7 +296,7 @@ fn break_right(image: &[u32]) -> bool
     let sub = image[BREAK_SUB_AT];
     let sup = image[BREAK_SUP_AT];
     let name = image[BREAK_NAME_AT];
-    let entries = image[image::ENTRIES_COUNT];
+    let entries = image[ENTRIES_COUNT_AT];
     if kind == UNBROKEN {
         (sub == 0) & (sup == 0) & (name == 0)
     } else if kind == MISMATCHED {
@@ -287,12 +343,14 @@ fn has_dynamic_type(e: EntryWords) -> bool
     (e.kind == ATTRSET) & image::says_dynamic(e.flags)
 }
 
+// Whether the kind is one of the nine.
 fn kind_known(e: EntryWords) -> bool
     ensures { λ r. ⌜ r ≡ kindKnown (entryTold e) ⌝ }
 {
     e.kind <= UNION
 }
 
+// Whether a primitive is one of the eight.
 fn primitive_known(e: EntryWords) -> bool
     ensures { λ r. ⌜ r ≡ primitiveKnown (entryTold e) ⌝ }
 {
@@ -304,7 +362,9 @@ fn components_below(i: u32, e: EntryWords) -> bool
     ensures { λ r. ⌜ r ≡ componentsBelow i (entryTold e) ⌝ }
 {
     let two = two_components(e);
-    (!(one_component(e) | two) | (e.x < i)) & (!two | (e.y < i)) & (!has_dynamic_type(e) | (e.z < i))
+    (!(one_component(e) | two) | (e.x < i))
+        & (!two | (e.y < i))
+        & (!has_dynamic_type(e) | (e.z < i))
 }
 
 // Whether words with no use are 0.
@@ -316,11 +376,12 @@ fn unused_zero(e: EntryWords) -> bool
         & (!((e.kind == ATTRSET) & (e.y == 0)) | (e.x == 0))
 }
 
+// Whether no flag is set that the kind does not have.
 fn flags_known(e: EntryWords) -> bool
     ensures { λ r. ⌜ r ≡ flagsKnown (entryTold e) ⌝ }
 {
     if e.kind == ATTRSET {
-        e.flags <= FLAGS_MOST
+        e.flags <= ATTRSET_FLAGS
     } else {
         e.flags <= MARK_FLAG
     }
@@ -331,8 +392,8 @@ fn spread_at(image: &[u32], n: u32) -> usize
     requires { ⌜ Laid (now image) ⌝ }
     ensures { λ r. ⌜ (r ≡ spreadAt (entriesOf (now (image .entry))) n) × (r < wordEnd) ⌝ }
 {
-    if n < image[image::ENTRIES_COUNT] {
-        wide(image::entry_word(image, n, 5))
+    if n < image[ENTRIES_COUNT_AT] {
+        wide(image::entry_word(image, n, SPREAD_WORD))
     } else {
         0
     }
@@ -352,6 +413,7 @@ fn spread_of(image: &[u32], kind: u32, x: u32, y: u32) -> usize
     }
 }
 
+// Whether the spread is the one that its components give, and within its maximum.
 fn spread_right(image: &[u32], e: EntryWords) -> bool
     requires { ⌜ Laid (now image) ⌝ }
     ensures { λ r. ⌜ r ≡ spreadRight (entriesOf (now (image .entry))) (entryTold e) ⌝ }
@@ -359,11 +421,12 @@ fn spread_right(image: &[u32], e: EntryWords) -> bool
     (wide(e.spread) == spread_of(image, e.kind, e.x, e.y)) & (e.spread <= SPREAD_MOST)
 }
 
+// Whether the negation is none, or the number of an entry plus 1.
 fn negation_known(image: &[u32], e: EntryWords) -> bool
     requires { ⌜ Laid (now image) ⌝ }
     ensures { λ r. ⌜ r ≡ negationKnown (entriesOf (now (image .entry))) (entryTold e) ⌝ }
 {
-    e.negation <= image[image::ENTRIES_COUNT]
+    e.negation <= image[ENTRIES_COUNT_AT]
 }
 
 // Whether so many field records from the first on have strictly ascending names below the name count, and entries below
@@ -395,16 +458,17 @@ fn attrset_right(image: &[u32], i: u32, e: EntryWords) -> bool
     if e.kind != ATTRSET {
         return true;
     }
-    if wide(image[FIELDS_COUNT]) < wide(e.x) + wide(e.y) {
+    if wide(image[FIELDS_COUNT_AT]) < wide(e.x) + wide(e.y) {
         return false;
     }
     own_right(image, i, e.x, e.y)
 }
 
+// Whether entry i is right: each of the model's tests, in its order.
 fn entry_right(image: &[u32], i: u32) -> bool
     requires { ⌜ Laid (now image) ⌝ }
     requires { ⌜ i < length (entriesOf (now image)) ⌝ }
-    ensures { λ r. ⌜ r ≡ entryRight (entriesOf (now (image .entry))) (fieldsIn (now (image .entry))) (storeOf (now (image .entry)) .names) i (entryAt (entriesOf (now (image .entry))) i) ⌝ }
+    ensures { λ r. ⌜ r ≡ entryRightIn (now (image .entry)) i (entryAt (entriesOf (now (image .entry))) i) ⌝ }
 {
     let e = entry_words(image, i);
     kind_known(e)
@@ -417,11 +481,12 @@ fn entry_right(image: &[u32], i: u32) -> bool
         & attrset_right(image, i, e)
 }
 
+// Whether every entry is right.
 fn entries_right(image: &[u32]) -> bool
     requires { ⌜ Laid (now image) ⌝ }
-    ensures { λ r. ⌜ r ≡ allFrom (entryRight (entriesOf (now (image .entry))) (fieldsIn (now (image .entry))) (storeOf (now (image .entry)) .names)) 0 (entriesOf (now (image .entry))) ⌝ }
+    ensures { λ r. ⌜ r ≡ allFrom (entryRightIn (now (image .entry))) 0 (entriesOf (now (image .entry))) ⌝ }
 {
-    let n = image[image::ENTRIES_COUNT];
+    let n = image[ENTRIES_COUNT_AT];
     let mut ok = true;
     let mut i = 0;
     while i < n {
@@ -431,20 +496,22 @@ fn entries_right(image: &[u32]) -> bool
     ok
 }
 
-// A field record, owned or not: its entry is one, and it is optional or not.
+// Whether field record i, owned or not, has the number of an entry, and is optional or not.
 fn field_right(image: &[u32], i: u32) -> bool
     requires { ⌜ Laid (now image) ⌝ }
     requires { ⌜ i < length (fieldsIn (now image)) ⌝ }
     ensures { λ r. ⌜ r ≡ fieldRight (entriesOf (now (image .entry))) (fieldAt (fieldsIn (now (image .entry))) i) ⌝ }
 {
-    (image::field_word(image, i, 1) < image[image::ENTRIES_COUNT]) & (image::field_word(image, i, 2) <= 1)
+    (image::field_word(image, i, 1) < image[ENTRIES_COUNT_AT])
+        & (image::field_word(image, i, 2) <= 1)
 }
 
+// Whether every field record is right.
 fn fields_right(image: &[u32]) -> bool
     requires { ⌜ Laid (now image) ⌝ }
     ensures { λ r. ⌜ r ≡ all (fieldRight (entriesOf (now (image .entry)))) (fieldsIn (now (image .entry))) ⌝ }
 {
-    let n = image[FIELDS_COUNT];
+    let n = image[FIELDS_COUNT_AT];
     let mut ok = true;
     let mut i = 0;
     while i < n {
@@ -459,14 +526,14 @@ fn is_variable(image: &[u32], v: u32) -> bool
     requires { ⌜ Laid (now image) ⌝ }
     ensures { λ r. ⌜ r ≡ (isEntry (entriesOf (now (image .entry))) v && isAt (entriesOf (now (image .entry))) variable v) ⌝ }
 {
-    if v < image[image::ENTRIES_COUNT] {
-        image::entry_word(image, v, 0) == VARIABLE
+    if v < image[ENTRIES_COUNT_AT] {
+        image::entry_word(image, v, KIND_WORD) == VARIABLE
     } else {
         false
     }
 }
 
-// A bound record: a variable's, on a side, and an entry.
+// Whether bound record i belongs to a variable, on one of the two sides, and has the number of an entry.
 fn bound_right(image: &[u32], i: u32) -> bool
     requires { ⌜ Laid (now image) ⌝ }
     requires { ⌜ i < length (boundsAll (now image)) ⌝ }
@@ -474,14 +541,15 @@ fn bound_right(image: &[u32], i: u32) -> bool
 {
     is_variable(image, image::bound_word(image, i, 0))
         & (image::bound_word(image, i, 1) <= UPPER)
-        & (image::bound_word(image, i, 2) < image[image::ENTRIES_COUNT])
+        & (image::bound_word(image, i, 2) < image[ENTRIES_COUNT_AT])
 }
 
+// Whether every bound record is right.
 fn bounds_right(image: &[u32]) -> bool
     requires { ⌜ Laid (now image) ⌝ }
     ensures { λ r. ⌜ r ≡ all (boundRight (entriesOf (now (image .entry)))) (boundsAll (now (image .entry))) ⌝ }
 {
-    let n = image[BOUNDS_COUNT];
+    let n = image[BOUNDS_COUNT_AT];
     let mut ok = true;
     let mut i = 0;
     while i < n {
@@ -498,7 +566,7 @@ fn pairs_right(image: &[u32], k: usize) -> bool
 {
     let start = offset(image, k);
     let end = start + 2 * count(image, k);
-    below(&image[start..end], image[image::ENTRIES_COUNT])
+    below(&image[start..end], image[ENTRIES_COUNT_AT])
 }
 
 // Whether every record is right.
@@ -510,9 +578,9 @@ fn records_right(image: &[u32]) -> bool
         & entries_right(image)
         & fields_right(image)
         & bounds_right(image)
-        & pairs_right(image, 4)
-        & pairs_right(image, 5)
-        & pairs_right(image, 6)
+        & pairs_right(image, VISITED)
+        & pairs_right(image, PENDING)
+        & pairs_right(image, EQUALS)
 }
 
 // Whether the words are a well formed image.

@@ -1,3 +1,4 @@
+-- `formed::attrset_right` meets its contract. Assumes nothing.
 use Prim.Native.Nat.{_+_}
 use native.Mathlib.Omega.{arith}
 use mathlib.Core.Path.{sym, ap}
@@ -5,6 +6,7 @@ use mathlib.Core.Bool.{Bool, _&&_, and-true}
 use lib.ListN.{length}
 use lib.Dec.{ltb}
 use borrow.Author.Tests.{eq-eqb, ne-eqb, le-leb, lt-leb}
+use borrow.Author.Needs.{needs}
 use Rattle.model.specs.Lists.{allOf, all}
 use Rattle.model.specs.Table.{is}
 use Rattle.model.specs.Shapes.{fieldsOf}
@@ -12,41 +14,28 @@ use Rattle.model.specs.Formed.{namesAscend, fieldsRight}
 use Rattle.image.specs.Shown.{storeOf, fieldsIn}
 use Rattle.image.proofs.Reading.{fields-count}
 use Rattle.formed.specs.Grouped.{entryTold, ownRight}
-use borrow.Author.Needs.{needs}
 use Rattle.formed.proofs.attrset_right.Statement.{statement}
 use Rattle.formed.proofs.attrset_right.Tie as tie
-use Rattle.formed.proofs.attrset_right.Reads as reads
-use Rattle.formed.proofs.attrset_right.Lts as lts
-use Rattle.formed.proofs.own_right.Reads as own-right-reads
-use Rattle.formed.proofs.wide.Reads as wide-reads
 
--- src/lib.rt:396:9
 returns : tie.Need-returns
 unfolding fieldsRight is
-returns c =
-    rw (ne-eqb _ _ (c .if1 .taken))
+returns c = rw (ne-eqb _ _ (c .if1 .taken))
 
--- src/lib.rt:398:13
 shared-slice-read-wide : tie.Need-shared-slice-read-wide
 shared-slice-read-wide c = search needs
 
--- src/lib.rt:398:8
 wide-requires : tie.Need-wide-requires
 wide-requires c κs = search needs
 
--- src/lib.rt:398:36
 wide-requires-2 : tie.Need-wide-requires-2
 wide-requires-2 c κs = search needs
 
--- src/lib.rt:398:48
 wide-requires-3 : tie.Need-wide-requires-3
 wide-requires-3 c κs = search needs
 
--- src/lib.rt:398:36
 add-if2 : tie.Need-add-if2
 add-if2 c = search needs
 
--- src/lib.rt:399:9
 returns-2 : tie.Need-returns-2
 unfolding fieldsRight is allOf
 returns-2 c =
@@ -55,14 +44,12 @@ returns-2 c =
     let n = fields-count w in
     rw (eq-eqb _ _ (c .before .before .before .before .before .if1 .left), lt-leb (a .e .x + a .e .y) (length (fieldsIn w)) (omega arith))
 
--- src/lib.rt:401:5
 own-right-requires : tie.Need-own-right-requires
 own-right-requires c κs =
     let s = c .before .before .before .before .before .before .before .before in
     let n = fields-count (s .args .image .now) in
     (s .pre, omega arith)
 
--- src/lib.rt:391:1
 returns-3 : tie.Need-returns-3
 unfolding fieldsRight is allOf fieldsOf ownRight
 returns-3 c =

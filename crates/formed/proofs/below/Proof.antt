@@ -1,4 +1,5 @@
-use Prim.Native.Nat.{ℕ, _≤_, _-_}
+-- `formed::below` meets its contract. The loop's invariant: `ok` is the test of the first i words. Assumes nothing.
+use Prim.Native.Nat.{_≤_, _-_}
 use native.Mathlib.Omega.{arith}
 use mathlib.Core.Path.{_≡_, refl, sym, _∙_}
 use lib.ListN.{length, take}
@@ -8,8 +9,6 @@ use Rattle.model.specs.Lists.{all}
 use Rattle.formed.proofs.Walked.{all-step, all-end}
 use Rattle.formed.proofs.below.Statement.{statement}
 use Rattle.formed.proofs.below.Tie as tie
-use Rattle.formed.proofs.below.Reads as reads
-use Rattle.formed.proofs.below.Lts as lts
 
 abbrev Inv-loop : tie.InvT-loop
 Inv-loop part most ok₀ i₀ ok i = (i ≤ length part) × (ok ≡ all (λ w. ltb w most) (take i part))
@@ -17,39 +16,27 @@ Inv-loop part most ok₀ i₀ ok i = (i ≤ length part) × (ok ≡ all (λ w. l
 abbrev μ-loop : tie.MeasureT-loop
 μ-loop part most ok₀ i₀ ok i = length part - i
 
--- src/lib.rt:125:5
 loop-holds : tie.Need-loop-holds Inv-loop μ-loop
 unfolding all
-loop-holds c =
-    (search needs, refl)
+loop-holds c = (search needs, refl)
 
--- src/lib.rt:126:20
 mul-ok : tie.Need-mul-ok Inv-loop μ-loop
-mul-ok c =
-    search needs
+mul-ok c = search needs
 
--- src/lib.rt:126:20
 shared-slice-read-ok : tie.Need-shared-slice-read-ok Inv-loop μ-loop
-shared-slice-read-ok c =
-    search needs
+shared-slice-read-ok c = search needs
 
--- src/lib.rt:127:9
 add-i : tie.Need-add-i Inv-loop μ-loop
-add-i c =
-    search needs
+add-i c = search needs
 
--- src/lib.rt:125:5
 loop-less : tie.Need-loop-less Inv-loop μ-loop
-loop-less c =
-    search needs
+loop-less c = search needs
 
--- src/lib.rt:125:5
 loop-again : tie.Need-loop-again Inv-loop μ-loop
 loop-again c =
     let l = c .before .before .loop in
     (omega arith, rw (l .inv .1) (sym (all-step (λ w. ltb w (c .before .before .before .args .most)) 0 (c .before .before .before .args .part .now) (l .i) (c .before .loop-test .taken))))
 
--- src/lib.rt:120:1
 returns : tie.Need-returns Inv-loop μ-loop
 returns c =
     let l = c .before .loop in

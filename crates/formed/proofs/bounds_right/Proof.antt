@@ -1,8 +1,9 @@
-use Prim.Native.Nat.{ℕ, _+_, _≤_, _-_}
+-- `formed::bounds_right` meets its contract. The loop's invariant: `ok` is the test of the first i bound records. Assumes nothing.
+use Prim.Native.Nat.{_≤_, _-_}
 use native.Mathlib.Omega.{arith}
 use mathlib.Core.Path.{_≡_, refl, sym, _∙_}
 use mathlib.Core.Bool.{_&&_}
-use lib.ListN.{length, take}
+use lib.ListN.{take}
 use borrow.Author.Needs.{needs}
 use Rattle.model.specs.Lists.{all}
 use Rattle.model.specs.Formed.{boundRight}
@@ -11,9 +12,6 @@ use Rattle.image.proofs.Reading.{bounds-count}
 use Rattle.formed.proofs.Walked.{all-step, all-end}
 use Rattle.formed.proofs.bounds_right.Statement.{statement}
 use Rattle.formed.proofs.bounds_right.Tie as tie
-use Rattle.formed.proofs.bounds_right.Reads as reads
-use Rattle.formed.proofs.bounds_right.Lts as lts
-use Rattle.formed.proofs.bound_right.Reads as bound-right-reads
 
 abbrev Inv-loop : tie.InvT-loop
 Inv-loop image n ok₀ i₀ ok i = (i ≤ n) × (ok ≡ all (boundRight (entriesOf image)) (take i (boundsAll image)))
@@ -21,35 +19,25 @@ Inv-loop image n ok₀ i₀ ok i = (i ≤ n) × (ok ≡ all (boundRight (entries
 abbrev μ-loop : tie.MeasureT-loop
 μ-loop image n ok₀ i₀ ok i = n - i
 
--- src/lib.rt:484:13
 shared-slice-read-n : tie.Need-shared-slice-read-n Inv-loop μ-loop
-shared-slice-read-n c =
-    search needs
+shared-slice-read-n c = search needs
 
--- src/lib.rt:487:5
 loop-holds : tie.Need-loop-holds Inv-loop μ-loop
 unfolding all
-loop-holds c =
-    (search needs, refl)
+loop-holds c = (search needs, refl)
 
--- src/lib.rt:488:19
 bound-right-requires : tie.Need-bound-right-requires Inv-loop μ-loop
 bound-right-requires c κs =
     let s = c .before .before .before .before in
     let n = bounds-count (s .args .image .now) in
     (s .pre, omega arith)
 
--- src/lib.rt:489:9
 add-i : tie.Need-add-i Inv-loop μ-loop
-add-i c =
-    search needs
+add-i c = search needs
 
--- src/lib.rt:487:5
 loop-less : tie.Need-loop-less Inv-loop μ-loop
-loop-less c =
-    search needs
+loop-less c = search needs
 
--- src/lib.rt:487:5
 loop-again : tie.Need-loop-again Inv-loop μ-loop
 loop-again c =
     let w = c .before .before .before .before .before .args .image .now in
@@ -57,7 +45,6 @@ loop-again c =
     let l = c .before .before .loop in
     (search needs, (λ j. l .inv .1 j && c .bound-right .ensures j) ∙ sym (all-step (boundRight (entriesOf w)) (record { variable = 0; side = 0; bound = 0 }) (boundsAll w) (l .i) (omega arith)))
 
--- src/lib.rt:480:1
 returns : tie.Need-returns Inv-loop μ-loop
 returns c =
     let w = c .before .before .before .before .args .image .now in

@@ -1,31 +1,21 @@
+-- `formed::check` meets its contract. Assumes nothing.
+use borrow.Author.Needs.{needs}
 use Rattle.image.specs.Laid.{Laid}
 use Rattle.formed.proofs.Tested.{passed, failed}
 use Rattle.formed.proofs.Whole.{formed-is, header-whole, regions-laid}
-use borrow.Author.Needs.{needs}
 use Rattle.formed.proofs.check.Statement.{statement}
 use Rattle.formed.proofs.check.Tie as tie
-use Rattle.formed.proofs.check.Reads as reads
-use Rattle.formed.proofs.check.Lts as lts
-use Rattle.formed.proofs.header_right.Reads as header-right-reads
-use Rattle.formed.proofs.records_right.Reads as records-right-reads
-use Rattle.formed.proofs.regions_laid.Reads as regions-laid-reads
-use Rattle.formed.proofs.rests_zero.Reads as rests-zero-reads
 
--- src/lib.rt:522:9
 header-right-requires : tie.Need-header-right-requires
 header-right-requires c κs = search needs
 
--- src/lib.rt:523:9
 returns : tie.Need-returns
 returns c =
     rw (formed-is (c .before .before .before .args .image .now) (c .before .before .shared-slice-known .given), failed (c .before .header-right .ensures) (c .if1 .taken))
 
--- src/lib.rt:525:9
 regions-laid-requires : tie.Need-regions-laid-requires
-regions-laid-requires c κs =
-    header-whole _ (passed (c .before .header-right .ensures) (c .if1 .left))
+regions-laid-requires c κs = header-whole _ (passed (c .before .header-right .ensures) (c .if1 .left))
 
--- src/lib.rt:526:9
 returns-2 : tie.Need-returns-2
 returns-2 c =
     rw (
@@ -40,17 +30,12 @@ laid c =
     (header-whole _ (passed (c .before .before .before .header-right .ensures) (c .before .before .if1 .left)))
     (passed (c .before .regions-laid .ensures) (c .if2 .left))
 
--- src/lib.rt:528:5
 rests-zero-requires : tie.Need-rests-zero-requires
-rests-zero-requires c κs =
-    laid c
+rests-zero-requires c κs = laid c
 
--- src/lib.rt:528:25
 records-right-requires : tie.Need-records-right-requires
-records-right-requires c κs =
-    laid (c .before)
+records-right-requires c κs = laid (c .before)
 
--- src/lib.rt:519:1
 returns-3 : tie.Need-returns-3
 returns-3 c =
     rw (

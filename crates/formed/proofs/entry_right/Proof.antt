@@ -1,62 +1,42 @@
+-- `formed::entry_right` meets its contract. Assumes nothing.
 use mathlib.Core.Path.{ap, _∙_}
 use mathlib.Core.List.{[], _∷_}
+use borrow.Author.Needs.{needs}
 use Rattle.model.specs.Table.{Entry}
 use Rattle.model.specs.Formed.{kindKnown, primitiveKnown, componentsBelow, unusedZero, flagsKnown, spreadRight, negationKnown, fieldsRight, entryRight}
 use Rattle.image.specs.Shown.{storeOf, entriesOf, fieldsIn}
 use Rattle.formed.specs.Grouped.{entryTold}
 use Rattle.formed.proofs.Tested.{joined-is}
-use borrow.Author.Needs.{needs}
 use Rattle.formed.proofs.entry_right.Statement.{statement}
 use Rattle.formed.proofs.entry_right.Tie as tie
-use Rattle.formed.proofs.entry_right.Reads as reads
-use Rattle.formed.proofs.entry_right.Lts as lts
-use Rattle.formed.proofs.attrset_right.Reads as attrset-right-reads
-use Rattle.formed.proofs.components_below.Reads as components-below-reads
-use Rattle.formed.proofs.entry_words.Reads as entry-words-reads
-use Rattle.formed.proofs.flags_known.Reads as flags-known-reads
-use Rattle.formed.proofs.kind_known.Reads as kind-known-reads
-use Rattle.formed.proofs.negation_known.Reads as negation-known-reads
-use Rattle.formed.proofs.primitive_known.Reads as primitive-known-reads
-use Rattle.formed.proofs.spread_right.Reads as spread-right-reads
-use Rattle.formed.proofs.unused_zero.Reads as unused-zero-reads
 
--- src/lib.rt:409:9
 entry-words-requires : tie.Need-entry-words-requires
 entry-words-requires c κs = search needs
 
--- src/lib.rt:410:5
 kind-known-requires : tie.Need-kind-known-requires
 kind-known-requires c κs = search needs
 
--- src/lib.rt:411:11
 primitive-known-requires : tie.Need-primitive-known-requires
 primitive-known-requires c κs = search needs
 
--- src/lib.rt:412:11
 components-below-requires : tie.Need-components-below-requires
 components-below-requires c κs = search needs
 
--- src/lib.rt:413:11
 unused-zero-requires : tie.Need-unused-zero-requires
 unused-zero-requires c κs = search needs
 
--- src/lib.rt:414:11
 flags-known-requires : tie.Need-flags-known-requires
 flags-known-requires c κs = search needs
 
--- src/lib.rt:415:11
 spread-right-requires : tie.Need-spread-right-requires
 spread-right-requires c κs = search needs
 
--- src/lib.rt:416:11
 negation-known-requires : tie.Need-negation-known-requires
 negation-known-requires c κs = search needs
 
--- src/lib.rt:417:11
 attrset-right-requires : tie.Need-attrset-right-requires
 attrset-right-requires c κs = search needs
 
--- src/lib.rt:404:1
 returns : tie.Need-returns
 unfolding entryRight
 returns c =

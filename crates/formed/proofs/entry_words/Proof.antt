@@ -1,39 +1,29 @@
+-- `formed::entry_words` meets its contract. Assumes nothing.
 use borrow.Author.Needs.{needs}
 use Rattle.formed.proofs.entry_words.Statement.{statement}
 use Rattle.formed.proofs.entry_words.Tie as tie
-use Rattle.formed.proofs.entry_words.Reads as reads
-use Rattle.formed.proofs.entry_words.Lts as lts
-use Rattle.image.proofs.entry_word.Reads as entry-word-reads
 
--- src/lib.rt:260:15
 entry-word-requires : tie.Need-entry-word-requires
 entry-word-requires c κs = search needs
 
--- src/lib.rt:261:12
 entry-word-requires-2 : tie.Need-entry-word-requires-2
 entry-word-requires-2 c κs = search needs
 
--- src/lib.rt:262:12
 entry-word-requires-3 : tie.Need-entry-word-requires-3
 entry-word-requires-3 c κs = search needs
 
--- src/lib.rt:263:12
 entry-word-requires-4 : tie.Need-entry-word-requires-4
 entry-word-requires-4 c κs = search needs
 
--- src/lib.rt:264:16
 entry-word-requires-5 : tie.Need-entry-word-requires-5
 entry-word-requires-5 c κs = search needs
 
--- src/lib.rt:265:17
 entry-word-requires-6 : tie.Need-entry-word-requires-6
 entry-word-requires-6 c κs = search needs
 
--- src/lib.rt:266:19
 entry-word-requires-7 : tie.Need-entry-word-requires-7
 entry-word-requires-7 c κs = search needs
 
--- src/lib.rt:254:1
 returns : tie.Need-returns
 returns c =
     λ j. record {

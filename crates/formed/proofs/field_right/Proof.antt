@@ -1,25 +1,19 @@
+-- `formed::field_right` meets its contract. Assumes nothing.
+use borrow.Author.Needs.{needs}
 use Rattle.model.specs.Formed.{isEntry, fieldRight}
 use Rattle.image.proofs.Reading.{entries-count}
-use borrow.Author.Needs.{needs}
 use Rattle.formed.proofs.field_right.Statement.{statement}
 use Rattle.formed.proofs.field_right.Tie as tie
-use Rattle.formed.proofs.field_right.Reads as reads
-use Rattle.formed.proofs.field_right.Lts as lts
-use Rattle.image.proofs.field_word.Reads as field-word-reads
 
--- src/lib.rt:440:6
 field-word-requires : tie.Need-field-word-requires
 field-word-requires c κs = search needs
 
--- src/lib.rt:440:39
 shared-slice-read-result : tie.Need-shared-slice-read-result
 shared-slice-read-result c = search needs
 
--- src/lib.rt:440:71
 field-word-requires-2 : tie.Need-field-word-requires-2
 field-word-requires-2 c κs = search needs
 
--- src/lib.rt:435:1
 returns : tie.Need-returns
 unfolding fieldRight isEntry
 returns c =

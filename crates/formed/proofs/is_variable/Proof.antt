@@ -1,30 +1,24 @@
+-- `formed::is_variable` meets its contract. Assumes nothing.
 use native.Mathlib.Omega.{arith}
-use mathlib.Core.Path.{sym}
 use lib.ListN.{length}
 use borrow.Author.Tests.{lt-ltb, le-ltb}
+use borrow.Author.Needs.{needs}
 use Rattle.model.specs.Table.{is, isAt}
 use Rattle.model.specs.Formed.{isEntry}
 use Rattle.image.specs.Shown.{entriesOf}
 use Rattle.image.proofs.Reading.{entries-count}
-use borrow.Author.Needs.{needs}
 use Rattle.formed.proofs.is_variable.Statement.{statement}
 use Rattle.formed.proofs.is_variable.Tie as tie
-use Rattle.formed.proofs.is_variable.Reads as reads
-use Rattle.formed.proofs.is_variable.Lts as lts
-use Rattle.image.proofs.entry_word.Reads as entry-word-reads
 
--- src/lib.rt:462:12
 shared-slice-read-if1 : tie.Need-shared-slice-read-if1
 shared-slice-read-if1 c = search needs
 
--- src/lib.rt:463:9
 entry-word-requires : tie.Need-entry-word-requires
 entry-word-requires c κs =
     let s = c .before .before .before in
     let n = entries-count (s .args .image .now) in
     (s .pre, (omega arith, omega arith))
 
--- src/lib.rt:458:1
 returns : tie.Need-returns
 unfolding isEntry isAt is
 returns c =
@@ -33,7 +27,6 @@ returns c =
     let n = entries-count w in
     rw (lt-ltb (s .args .v) (length (entriesOf w)) (omega arith), c .entry-word .ensures)
 
--- src/lib.rt:458:1
 returns-2 : tie.Need-returns-2
 unfolding isEntry
 returns-2 c =

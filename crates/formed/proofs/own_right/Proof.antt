@@ -1,7 +1,6 @@
-use Prim.Native.Nat.{ℕ, _+_, _≤_, _-_}
+-- `formed::own_right` meets its contract. The loop's invariant: the test of all is `ok` and the test of the rest, from `least` on. Assumes nothing.
+use Prim.Native.Nat.{_≤_, _-_}
 use native.Mathlib.Omega.{arith}
-use mathlib.Core.Path.{_≡_, refl, sym, ap, _∙_}
-use mathlib.Core.Bool.{_&&_}
 use borrow.Author.Needs.{needs}
 use Rattle.model.specs.Image.{table}
 use Rattle.image.specs.Shown.{fieldsIn}
@@ -9,10 +8,6 @@ use Rattle.image.proofs.Reading.{fields-count}
 use Rattle.formed.proofs.Owned.{Walked, own-start, own-step, own-end}
 use Rattle.formed.proofs.own_right.Statement.{statement}
 use Rattle.formed.proofs.own_right.Tie as tie
-use Rattle.formed.proofs.own_right.Reads as reads
-use Rattle.formed.proofs.own_right.Lts as lts
-use Rattle.formed.proofs.wide.Reads as wide-reads
-use Rattle.image.proofs.field_word.Reads as field-word-reads
 
 abbrev Inv-loop : tie.InvT-loop
 Inv-loop image i first fields names ok₀ least₀ k₀ ok least k = (k ≤ fields) × Walked names i (fieldsIn image) first fields ok least k
@@ -20,65 +15,45 @@ Inv-loop image i first fields names ok₀ least₀ k₀ ok least k = (k ≤ fiel
 abbrev μ-loop : tie.MeasureT-loop
 μ-loop image i first fields names ok₀ least₀ k₀ ok least k = fields - k
 
--- src/lib.rt:376:17
 shared-slice-read-names : tie.Need-shared-slice-read-names Inv-loop μ-loop
-shared-slice-read-names c =
-    search needs
+shared-slice-read-names c = search needs
 
--- src/lib.rt:380:5
 loop-holds : tie.Need-loop-holds Inv-loop μ-loop
 loop-holds c =
     let a = c .before .before .args in
     (search needs, own-start _ _ (fieldsIn (a .image .now)) (a .first) (a .fields))
 
--- src/lib.rt:381:45
 add-field-word : tie.Need-add-field-word Inv-loop μ-loop
-add-field-word c =
-    let n = fields-count (c .before .before .before .before .args .image .now) in omega arith
+add-field-word c = let n = fields-count (c .before .before .before .before .args .image .now) in omega arith
 
--- src/lib.rt:381:13
 field-word-requires : tie.Need-field-word-requires Inv-loop μ-loop
 field-word-requires c κs =
     let s = c .before .before .before .before in
     (s .pre .0, (omega arith, omega arith))
 
--- src/lib.rt:382:46
 add-field-word-2 : tie.Need-add-field-word-2 Inv-loop μ-loop
-add-field-word-2 c =
-    let n = fields-count (c .before .before .before .before .before .args .image .now) in omega arith
+add-field-word-2 c = let n = fields-count (c .before .before .before .before .before .args .image .now) in omega arith
 
--- src/lib.rt:382:13
 field-word-requires-2 : tie.Need-field-word-requires-2 Inv-loop μ-loop
 field-word-requires-2 c κs =
     let s = c .before .before .before .before .before in
     (s .pre .0, (omega arith, omega arith))
 
--- src/lib.rt:383:30
 wide-requires : tie.Need-wide-requires Inv-loop μ-loop
-wide-requires c κs =
-    search needs
+wide-requires c κs = search needs
 
--- src/lib.rt:384:17
 wide-requires-2 : tie.Need-wide-requires-2 Inv-loop μ-loop
-wide-requires-2 c κs =
-    search needs
+wide-requires-2 c κs = search needs
 
--- src/lib.rt:384:17
 add-least : tie.Need-add-least Inv-loop μ-loop
-add-least c =
-    search needs
+add-least c = search needs
 
--- src/lib.rt:385:9
 add-k : tie.Need-add-k Inv-loop μ-loop
-add-k c =
-    search needs
+add-k c = search needs
 
--- src/lib.rt:380:5
 loop-less : tie.Need-loop-less Inv-loop μ-loop
-loop-less c =
-    search needs
+loop-less c = search needs
 
--- src/lib.rt:380:5
 loop-again : tie.Need-loop-again Inv-loop μ-loop
 loop-again c =
     let s = c .before .before .before .before .before .before .before .before in
@@ -87,7 +62,6 @@ loop-again c =
     let h = own-step _ _ (fieldsIn (a .image .now)) (a .first) (a .fields) (s .pre .1) (l .ok) (l .least) (l .k) (c .before .before .before .field-word .result) (c .before .before .field-word2 .result) (l .inv .1) (omega arith) (c .before .before .before .field-word .ensures) (c .before .before .field-word2 .ensures) in
     (search needs, rw (c .before .wide .ensures .0, c .wide2 .ensures .0) h)
 
--- src/lib.rt:371:1
 returns : tie.Need-returns Inv-loop μ-loop
 unfolding table
 returns c =

@@ -1,67 +1,51 @@
+-- `formed::regions_laid` meets its contract. Assumes nothing.
 use mathlib.Core.List.{[], _∷_}
 use lib.ListN.{length}
 use lib.Dec.{eqb}
+use borrow.Author.Needs.{needs}
 use Rattle.model.specs.Lists.{allOf}
 use Rattle.model.specs.Formed.{regionEnd}
 use Rattle.formed.specs.Grouped.{regionLaid, regionsLaid}
 use Rattle.formed.proofs.Tested.{joined-is}
-use borrow.Author.Needs.{needs}
 use Rattle.formed.proofs.regions_laid.Statement.{statement}
 use Rattle.formed.proofs.regions_laid.Tie as tie
-use Rattle.formed.proofs.regions_laid.Reads as reads
-use Rattle.formed.proofs.regions_laid.Lts as lts
-use Rattle.formed.proofs.region_end.Reads as region-end-reads
-use Rattle.formed.proofs.region_laid.Reads as region-laid-reads
 
--- src/lib.rt:202:5
 region-laid-requires : tie.Need-region-laid-requires
 region-laid-requires c κs = search needs
 
--- src/lib.rt:203:40
 region-end-requires : tie.Need-region-end-requires
 region-end-requires c κs = search needs
 
--- src/lib.rt:203:11
 region-laid-requires-2 : tie.Need-region-laid-requires-2
 region-laid-requires-2 c κs = search needs
 
--- src/lib.rt:204:40
 region-end-requires-2 : tie.Need-region-end-requires-2
 region-end-requires-2 c κs = search needs
 
--- src/lib.rt:204:11
 region-laid-requires-3 : tie.Need-region-laid-requires-3
 region-laid-requires-3 c κs = search needs
 
--- src/lib.rt:205:40
 region-end-requires-3 : tie.Need-region-end-requires-3
 region-end-requires-3 c κs = search needs
 
--- src/lib.rt:205:11
 region-laid-requires-4 : tie.Need-region-laid-requires-4
 region-laid-requires-4 c κs = search needs
 
--- src/lib.rt:206:40
 region-end-requires-4 : tie.Need-region-end-requires-4
 region-end-requires-4 c κs = search needs
 
--- src/lib.rt:206:11
 region-laid-requires-5 : tie.Need-region-laid-requires-5
 region-laid-requires-5 c κs = search needs
 
--- src/lib.rt:207:40
 region-end-requires-5 : tie.Need-region-end-requires-5
 region-end-requires-5 c κs = search needs
 
--- src/lib.rt:207:11
 region-laid-requires-6 : tie.Need-region-laid-requires-6
 region-laid-requires-6 c κs = search needs
 
--- src/lib.rt:208:12
 region-end-requires-6 : tie.Need-region-end-requires-6
 region-end-requires-6 c κs = search needs
 
--- src/lib.rt:198:1
 returns : tie.Need-returns
 unfolding regionsLaid allOf
 returns c =

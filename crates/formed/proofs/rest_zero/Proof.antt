@@ -1,38 +1,27 @@
+-- `formed::rest_zero` meets its contract. Assumes nothing.
 use Prim.Native.Nat.{_+_, _*_, _≤_}
 use native.Mathlib.Omega.{arith}
 use native.Mathlib.Nat.{mul-le-mul-right}
 use mathlib.Core.Path.{_∙_}
 use lib.ListN.{length}
-use Rattle.formed.proofs.Whole.{rest-inside, rest-is}
 use borrow.Author.Needs.{needs}
+use Rattle.formed.proofs.Whole.{rest-inside, rest-is}
 use Rattle.formed.proofs.rest_zero.Statement.{statement}
 use Rattle.formed.proofs.rest_zero.Tie as tie
-use Rattle.formed.proofs.rest_zero.Reads as reads
-use Rattle.formed.proofs.rest_zero.Lts as lts
-use Rattle.formed.proofs.count.Reads as count-reads
-use Rattle.formed.proofs.offset.Reads as offset-reads
-use Rattle.formed.proofs.region_end.Reads as region-end-reads
-use Rattle.formed.proofs.zeros.Reads as zeros-reads
 
--- src/lib.rt:216:17
 offset-requires : tie.Need-offset-requires
 offset-requires c κs = search needs
 
--- src/lib.rt:216:44
 count-requires : tie.Need-count-requires
 count-requires c κs = search needs
 
--- src/lib.rt:216:36
 mul-start : tie.Need-mul-start
-mul-start c =
-    let m = mul-le-mul-right (c .count .result) (c .before .before .before .pre .narrow) in omega (arith, c .count .ensures .1)
+mul-start c = let m = mul-le-mul-right (c .count .result) (c .before .before .before .pre .narrow) in omega (arith, c .count .ensures .1)
 
--- src/lib.rt:216:17
 add-start : tie.Need-add-start
 add-start c =
     let m = mul-le-mul-right (c .count .result) (c .before .before .before .pre .narrow) in omega (arith, c .count .ensures .1, c .before .offset .ensures .1)
 
--- src/lib.rt:217:9
 region-end-requires : tie.Need-region-end-requires
 region-end-requires c κs = search needs
 
@@ -43,31 +32,21 @@ inside c =
     let a = s .args in
     rest-inside (a .image .now) (a .k) (a .width) (s .pre) _ _ _ (c .before .before .offset .ensures .0) (c .before .count .ensures .0) (c .region-end .ensures)
 
--- src/lib.rt:218:11
 mul-zeros : tie.Need-mul-zeros
-mul-zeros c =
-    let h = inside c in omega arith
+mul-zeros c = let h = inside c in omega arith
 
--- src/lib.rt:218:11
 sub-zeros : tie.Need-sub-zeros
-sub-zeros c =
-    let h = inside c in omega arith
+sub-zeros c = let h = inside c in omega arith
 
--- src/lib.rt:218:11
 part-zeros-start : tie.Need-part-zeros-start
-part-zeros-start c =
-    inside c .0
+part-zeros-start c = inside c .0
 
--- src/lib.rt:218:11
 part-zeros-end : tie.Need-part-zeros-end
-part-zeros-end c =
-    inside c .1
+part-zeros-end c = inside c .1
 
--- src/lib.rt:218:5
 zeros-requires : tie.Need-zeros-requires
 zeros-requires c κs = search needs
 
--- src/lib.rt:212:1
 returns : tie.Need-returns
 returns c =
     let s = c .before .before .before .before .before .before in

@@ -1,40 +1,30 @@
+-- `formed::rests_zero` meets its contract. Assumes nothing.
 use mathlib.Core.List.{[], _∷_}
-use Rattle.model.specs.Lists.{allOf}
+use borrow.Author.Needs.{needs}
 use Rattle.model.specs.Formed.{restZero}
 use Rattle.formed.specs.Grouped.{restsZero}
 use Rattle.formed.proofs.Tested.{joined-is}
-use borrow.Author.Needs.{needs}
 use Rattle.formed.proofs.rests_zero.Statement.{statement}
 use Rattle.formed.proofs.rests_zero.Tie as tie
-use Rattle.formed.proofs.rests_zero.Reads as reads
-use Rattle.formed.proofs.rests_zero.Lts as lts
-use Rattle.formed.proofs.rest_zero.Reads as rest-zero-reads
 
--- src/lib.rt:226:5
 rest-zero-requires : tie.Need-rest-zero-requires
 rest-zero-requires c κs = search needs
 
--- src/lib.rt:227:11
 rest-zero-requires-2 : tie.Need-rest-zero-requires-2
 rest-zero-requires-2 c κs = search needs
 
--- src/lib.rt:228:11
 rest-zero-requires-3 : tie.Need-rest-zero-requires-3
 rest-zero-requires-3 c κs = search needs
 
--- src/lib.rt:229:11
 rest-zero-requires-4 : tie.Need-rest-zero-requires-4
 rest-zero-requires-4 c κs = search needs
 
--- src/lib.rt:230:11
 rest-zero-requires-5 : tie.Need-rest-zero-requires-5
 rest-zero-requires-5 c κs = search needs
 
--- src/lib.rt:231:11
 rest-zero-requires-6 : tie.Need-rest-zero-requires-6
 rest-zero-requires-6 c κs = search needs
 
--- src/lib.rt:222:1
 returns : tie.Need-returns
 unfolding restsZero
 returns c =

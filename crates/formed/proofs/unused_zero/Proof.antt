@@ -1,29 +1,23 @@
+-- `formed::unused_zero` meets its contract. Assumes nothing.
 use mathlib.Core.Path.{_∙_}
 use mathlib.Core.List.{[], _∷_}
 use mathlib.Core.Bool.{_||_, _&&_}
-use Rattle.model.specs.Lists.{_⇒_, isZero, allOf}
+use borrow.Author.Needs.{needs}
+use Rattle.model.specs.Lists.{_⇒_, isZero}
 use Rattle.model.specs.Format.{attrset, named}
 use Rattle.model.specs.Table.{is}
 use Rattle.model.specs.Formed.{twoComponents, hasDynamicType, unusedZero}
 use Rattle.formed.specs.Grouped.{entryTold}
 use Rattle.formed.proofs.Tested.{joined-is, when-is}
-use borrow.Author.Needs.{needs}
 use Rattle.formed.proofs.unused_zero.Statement.{statement}
 use Rattle.formed.proofs.unused_zero.Tie as tie
-use Rattle.formed.proofs.unused_zero.Reads as reads
-use Rattle.formed.proofs.unused_zero.Lts as lts
-use Rattle.formed.proofs.has_dynamic_type.Reads as has-dynamic-type-reads
-use Rattle.formed.proofs.two_components.Reads as two-components-reads
 
--- src/lib.rt:314:6
 two-components-requires : tie.Need-two-components-requires
 two-components-requires c κs = search needs
 
--- src/lib.rt:315:12
 has-dynamic-type-requires : tie.Need-has-dynamic-type-requires
 has-dynamic-type-requires c κs = search needs
 
--- src/lib.rt:311:1
 returns : tie.Need-returns
 unfolding unusedZero is
 returns c =
