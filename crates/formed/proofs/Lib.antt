@@ -1,0 +1,4 @@
+pub mod Tested
+pub mod Walked
+pub mod Owned
+pub mod Whole

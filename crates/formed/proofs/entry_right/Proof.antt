@@ -1,0 +1,76 @@
+-- `formed::entry_right` meets its contract. Assumes nothing.
+use mathlib.Core.Path.{ap, _∙_}
+use mathlib.Core.List.{[], _∷_}
+use borrow.Author.Needs.{needs}
+use Rattle.model.specs.Table.{Entry}
+use Rattle.model.specs.Formed.{kindKnown, primitiveKnown, componentsBelow, unusedZero, flagsKnown, spreadRight, negationKnown, fieldsRight, entryRight}
+use Rattle.image.specs.Shown.{storeOf, entriesOf, fieldsIn}
+use Rattle.formed.specs.Grouped.{entryTold}
+use Rattle.formed.proofs.Tested.{joined-is}
+use Rattle.formed.proofs.entry_right.Statement.{statement}
+use Rattle.formed.proofs.entry_right.Tie as tie
+
+entry-words-requires : tie.Need-entry-words-requires
+entry-words-requires c κs = search needs
+
+kind-known-requires : tie.Need-kind-known-requires
+kind-known-requires c κs = search needs
+
+primitive-known-requires : tie.Need-primitive-known-requires
+primitive-known-requires c κs = search needs
+
+components-below-requires : tie.Need-components-below-requires
+components-below-requires c κs = search needs
+
+unused-zero-requires : tie.Need-unused-zero-requires
+unused-zero-requires c κs = search needs
+
+flags-known-requires : tie.Need-flags-known-requires
+flags-known-requires c κs = search needs
+
+spread-right-requires : tie.Need-spread-right-requires
+spread-right-requires c κs = search needs
+
+negation-known-requires : tie.Need-negation-known-requires
+negation-known-requires c κs = search needs
+
+attrset-right-requires : tie.Need-attrset-right-requires
+attrset-right-requires c κs = search needs
+
+returns : tie.Need-returns
+unfolding entryRight
+returns c =
+    let w = c .before .before .before .before .before .before .before .before .before .before .args .image .now in
+    let i = c .before .before .before .before .before .before .before .before .before .before .args .i in
+    let es = entriesOf w in
+    let fs = fieldsIn w in
+    let names = storeOf w .names in
+    let e = entryTold (c .before .before .before .before .before .before .before .before .entry-words .result) in
+    rw (
+      c .before .before .before .before .before .before .before .kind-known .ensures,
+      c .before .before .before .before .before .before .primitive-known .ensures,
+      c .before .before .before .before .before .components-below .ensures,
+      c .before .before .before .before .unused-zero .ensures,
+      c .before .before .before .flags-known .ensures,
+      c .before .before .spread-right .ensures,
+      c .before .negation-known .ensures,
+      c .attrset-right .ensures,
+    )
+    (joined-is (kindKnown e)
+    (primitiveKnown e ∷ componentsBelow i e ∷ unusedZero e ∷ flagsKnown e ∷ spreadRight es e ∷ negationKnown es e ∷ fieldsRight fs names i e ∷ [])
+    ∙ ap (λ (r : Entry). entryRight es fs names i r) (c .before .before .before .before .before .before .before .before .entry-words .ensures))
+
+pub entry-right-spec : {M : Type 1} → statement M
+entry-right-spec =
+    tie.close
+    (tie.spec
+    entry-words-requires
+    kind-known-requires
+    primitive-known-requires
+    components-below-requires
+    unused-zero-requires
+    flags-known-requires
+    spread-right-requires
+    negation-known-requires
+    attrset-right-requires
+    returns)

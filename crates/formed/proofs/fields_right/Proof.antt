@@ -1,0 +1,67 @@
+-- `formed::fields_right` meets its contract. The loop's invariant: `ok` is the test of the first i field records. Assumes nothing.
+use Prim.Native.Nat.{_≤_, _-_}
+use native.Mathlib.Omega.{arith}
+use mathlib.Core.Path.{_≡_, refl, sym, _∙_}
+use mathlib.Core.Bool.{_&&_}
+use lib.ListN.{take}
+use borrow.Author.Needs.{needs}
+use Rattle.model.specs.Lists.{all}
+use Rattle.model.specs.Formed.{fieldRight}
+use Rattle.image.specs.Shown.{entriesOf, fieldsIn}
+use Rattle.image.proofs.Reading.{fields-count}
+use Rattle.formed.proofs.Walked.{all-step, all-end}
+use Rattle.formed.proofs.fields_right.Statement.{statement}
+use Rattle.formed.proofs.fields_right.Tie as tie
+
+abbrev Inv-loop : tie.InvT-loop
+Inv-loop image n ok₀ i₀ ok i = (i ≤ n) × (ok ≡ all (fieldRight (entriesOf image)) (take i (fieldsIn image)))
+
+abbrev μ-loop : tie.MeasureT-loop
+μ-loop image n ok₀ i₀ ok i = n - i
+
+shared-slice-read-n : tie.Need-shared-slice-read-n Inv-loop μ-loop
+shared-slice-read-n c = search needs
+
+loop-holds : tie.Need-loop-holds Inv-loop μ-loop
+unfolding all
+loop-holds c = (search needs, refl)
+
+field-right-requires : tie.Need-field-right-requires Inv-loop μ-loop
+field-right-requires c κs =
+    let s = c .before .before .before .before in
+    let n = fields-count (s .args .image .now) in
+    (s .pre, omega arith)
+
+add-i : tie.Need-add-i Inv-loop μ-loop
+add-i c = search needs
+
+loop-less : tie.Need-loop-less Inv-loop μ-loop
+loop-less c = search needs
+
+loop-again : tie.Need-loop-again Inv-loop μ-loop
+loop-again c =
+    let w = c .before .before .before .before .before .args .image .now in
+    let n = fields-count w in
+    let l = c .before .before .loop in
+    (search needs, (λ j. l .inv .1 j && c .field-right .ensures j) ∙ sym (all-step (fieldRight (entriesOf w)) (record { name = 0; entry = 0; optional = 0 }) (fieldsIn w) (l .i) (omega arith)))
+
+returns : tie.Need-returns Inv-loop μ-loop
+returns c =
+    let w = c .before .before .before .before .args .image .now in
+    let n = fields-count w in
+    let l = c .before .loop in
+    l .inv .1 ∙ all-end (fieldRight (entriesOf w)) (record { name = 0; entry = 0; optional = 0 }) (fieldsIn w) (l .i) (omega arith)
+
+pub fields-right-spec : {M : Type 1} → statement M
+fields-right-spec =
+    tie.close
+    (tie.spec
+    Inv-loop
+    μ-loop
+    shared-slice-read-n
+    loop-holds
+    field-right-requires
+    add-i
+    loop-less
+    loop-again
+    returns)

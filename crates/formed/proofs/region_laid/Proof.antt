@@ -1,0 +1,33 @@
+-- `formed::region_laid` meets its contract. Assumes nothing.
+use mathlib.Core.List.{[], _∷_}
+use lib.Dec.{eqb, leb}
+use borrow.Author.Needs.{needs}
+use Rattle.model.specs.Lists.{allOf}
+use Rattle.model.specs.Image.{offset, capacity, count}
+use Rattle.formed.specs.Grouped.{regionLaid}
+use Rattle.formed.proofs.Tested.{joined-is}
+use Rattle.formed.proofs.region_laid.Statement.{statement}
+use Rattle.formed.proofs.region_laid.Tie as tie
+
+capacity-requires : tie.Need-capacity-requires
+capacity-requires c κs = search needs
+
+offset-requires : tie.Need-offset-requires
+offset-requires c κs = search needs
+
+wide-requires : tie.Need-wide-requires
+wide-requires c κs = search needs
+
+count-requires : tie.Need-count-requires
+count-requires c κs = search needs
+
+returns : tie.Need-returns
+unfolding regionLaid allOf
+returns c =
+    let a = c .before .before .before .before .before .args in
+    let w = a .image .now in
+    rw (c .before .before .before .capacity .ensures .0, c .before .before .offset .ensures .0, c .before .wide .ensures .0, c .count .ensures .0)
+    (joined-is (eqb (offset w (a .k)) (a .at)) (leb (capacity w (a .k)) (a .most) ∷ leb (count w (a .k)) (capacity w (a .k)) ∷ []))
+
+pub region-laid-spec : {M : Type 1} → statement M
+region-laid-spec = tie.close (tie.spec capacity-requires offset-requires wide-requires count-requires returns)

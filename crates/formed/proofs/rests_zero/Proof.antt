@@ -1,0 +1,52 @@
+-- `formed::rests_zero` meets its contract. Assumes nothing.
+use mathlib.Core.List.{[], _∷_}
+use borrow.Author.Needs.{needs}
+use Rattle.model.specs.Formed.{restZero}
+use Rattle.formed.specs.Grouped.{restsZero}
+use Rattle.formed.proofs.Tested.{joined-is}
+use Rattle.formed.proofs.rests_zero.Statement.{statement}
+use Rattle.formed.proofs.rests_zero.Tie as tie
+
+rest-zero-requires : tie.Need-rest-zero-requires
+rest-zero-requires c κs = search needs
+
+rest-zero-requires-2 : tie.Need-rest-zero-requires-2
+rest-zero-requires-2 c κs = search needs
+
+rest-zero-requires-3 : tie.Need-rest-zero-requires-3
+rest-zero-requires-3 c κs = search needs
+
+rest-zero-requires-4 : tie.Need-rest-zero-requires-4
+rest-zero-requires-4 c κs = search needs
+
+rest-zero-requires-5 : tie.Need-rest-zero-requires-5
+rest-zero-requires-5 c κs = search needs
+
+rest-zero-requires-6 : tie.Need-rest-zero-requires-6
+rest-zero-requires-6 c κs = search needs
+
+returns : tie.Need-returns
+unfolding restsZero
+returns c =
+    let w = c .before .before .before .before .before .before .before .args .image .now in
+    rw (
+      c .before .before .before .before .before .rest-zero .ensures,
+      c .before .before .before .before .rest-zero2 .ensures,
+      c .before .before .before .rest-zero3 .ensures,
+      c .before .before .rest-zero4 .ensures,
+      c .before .rest-zero5 .ensures,
+      c .rest-zero6 .ensures,
+    )
+    (joined-is (restZero w 1 7) (restZero w 2 3 ∷ restZero w 3 3 ∷ restZero w 4 2 ∷ restZero w 5 2 ∷ restZero w 6 2 ∷ []))
+
+pub rests-zero-spec : {M : Type 1} → statement M
+rests-zero-spec =
+    tie.close
+    (tie.spec
+    rest-zero-requires
+    rest-zero-requires-2
+    rest-zero-requires-3
+    rest-zero-requires-4
+    rest-zero-requires-5
+    rest-zero-requires-6
+    returns)

@@ -1,0 +1,597 @@
+// Whether lent words are a well formed image: a function for each condition of document 01, named as the model's test that it
+// decides, and `check`, which is all of them. No test of many records stops early: an image is nearly always well formed.
+ghost use mathlib.Core.Path.{_≡_};
+ghost use mathlib.Core.List.{[], _∷_};
+ghost use mathlib.Core.Bool.{cond, _&&_};
+ghost use Prim.Native.Nat.{ℕ, _+_, _*_, _≤_, _<_};
+ghost use lib.ListN.{length, take, drop};
+ghost use lib.Dec.{eqb, leb, ltb};
+ghost use Rattle.model.specs.Lists.{isZero, allOf, all, allFrom};
+ghost use Rattle.model.specs.Format.{wordEnd, headerWords, idle, variable};
+ghost use Rattle.model.specs.Table.{entryAt, isAt};
+ghost use Rattle.model.specs.Image.{offset, capacity, count, pairOf, recordsOf, table};
+ghost use Rattle.model.specs.Making.{spreadAt, spreadOf};
+ghost use Rattle.model.specs.Formed.{regionEnd, restZero, isEntry, pairRight, breakRight, oneComponent, twoComponents, hasDynamicType, kindKnown, primitiveKnown, componentsBelow, unusedZero, flagsKnown, spreadRight, negationKnown, fieldsRight, fieldRight, boundRight, recordsRight, wellFormed};
+ghost use Rattle.image.specs.Laid.{Laid};
+ghost use Rattle.image.specs.Shown.{storeOf, entriesOf, fieldsIn, boundsAll};
+ghost use Rattle.image.specs.Records.{fieldAt, boundAt};
+ghost use Rattle.formed.specs.Grouped.{headerRight, regionLaid, regionsLaid, RegionInside, restsZero, entryTold, ownRight, entryRightIn};
+
+// The header's words, by their places. Region k, from 1, has its offset, capacity and count at 6, 7 and 8 + 3k.
+const FORMAT_AT: usize = 0;
+
+const STATE_AT: usize = 1;
+
+const BREAK_KIND_AT: usize = 2;
+
+const BREAK_SUB_AT: usize = 3;
+
+const BREAK_SUP_AT: usize = 4;
+
+const BREAK_NAME_AT: usize = 5;
+
+const NAMES_AT: usize = 7;
+
+const FUNCTOR_AT: usize = 8;
+
+const ENTRIES_COUNT_AT: usize = 11;
+
+const FIELDS_COUNT_AT: usize = 14;
+
+const BOUNDS_COUNT_AT: usize = 17;
+
+const PENDING_COUNT_AT: usize = 23;
+
+// The regions, and the most records that each may have.
+const ENTRIES: usize = 1;
+
+const FIELDS: usize = 2;
+
+const BOUNDS: usize = 3;
+
+const VISITED: usize = 4;
+
+const PENDING: usize = 5;
+
+const EQUALS: usize = 6;
+
+const ENTRIES_MOST: u32 = 4096;
+
+const FIELDS_MOST: u32 = 16384;
+
+const BOUNDS_MOST: u32 = 65536;
+
+const VISITED_MOST: u32 = 65536;
+
+const PENDING_MOST: u32 = 65536;
+
+const EQUALS_MOST: u32 = 65536;
+
+// What the header may say.
+const FORMAT: u32 = 1;
+
+const IDLE: u32 = 0;
+
+const ASKED: u32 = 1;
+
+const UNBROKEN: u32 = 0;
+
+const MISMATCHED: u32 = 1;
+
+const FIELD_MISSING: u32 = 2;
+
+const NAMES_MOST: u32 = 4096;
+
+// What an entry's words may say: its kind, the last primitive, its flags and spread.
+const KIND_WORD: usize = 0;
+
+const SPREAD_WORD: usize = 5;
+
+const VARIABLE: u32 = 0;
+
+const PRIMITIVE: u32 = 1;
+
+const LIST: u32 = 2;
+
+const LAMBDA: u32 = 3;
+
+const ATTRSET: u32 = 4;
+
+const NAMED: u32 = 5;
+
+const NEG: u32 = 6;
+
+const INTER: u32 = 7;
+
+const UNION: u32 = 8;
+
+const NUMBER: u32 = 7;
+
+const MARK_FLAG: u32 = 1;
+
+const ATTRSET_FLAGS: u32 = MARK_FLAG + image::OPEN_FLAG + image::DYNAMIC_FLAG;
+
+const SPREAD_MOST: u32 = 1024;
+
+// A bound's upper side.
+const UPPER: u32 = 1;
+
+// An entry's words.
+struct EntryWords {
+    kind: u32,
+    x: u32,
+    y: u32,
+    z: u32,
+    flags: u32,
+    spread: u32,
+    negation: u32,
+}
+
+// A word as a length.
+fn wide(x: u32) -> usize
+    ensures { λ r. ⌜ (r ≡ x) × (r < wordEnd) ⌝ }
+{
+    x as usize
+}
+
+// Whether all words of a part are 0.
+fn zeros(part: &[u32]) -> bool
+    ensures { λ r. ⌜ r ≡ all isZero (now (part .entry)) ⌝ }
+{
+    let mut ok = true;
+    let mut i = 0;
+    while i < part.len() {
+        ok = ok & (part[i] == 0);
+        i += 1;
+    }
+    ok
+}
+
+// Whether all words of a part are below a number.
+fn below(part: &[u32], most: u32) -> bool
+    ensures { λ r. ⌜ r ≡ all (λ w. ltb w most) (now (part .entry)) ⌝ }
+{
+    let mut ok = true;
+    let mut i = 0;
+    while i < part.len() {
+        ok = ok & (part[i] < most);
+        i += 1;
+    }
+    ok
+}
+
+// Region k's offset, capacity and count.
+fn offset(image: &[u32], k: usize) -> usize
+    requires { ⌜ (headerWords ≤ length (now image)) × (k ≤ 6) ⌝ }
+    ensures { λ r. ⌜ (r ≡ offset (now (image .entry)) k) × (r < wordEnd) ⌝ }
+{
+    wide(image[6 + 3 * k])
+}
+
+fn capacity(image: &[u32], k: usize) -> usize
+    requires { ⌜ (headerWords ≤ length (now image)) × (k ≤ 6) ⌝ }
+    ensures { λ r. ⌜ (r ≡ capacity (now (image .entry)) k) × (r < wordEnd) ⌝ }
+{
+    wide(image[7 + 3 * k])
+}
+
+fn count(image: &[u32], k: usize) -> usize
+    requires { ⌜ (headerWords ≤ length (now image)) × (k ≤ 6) ⌝ }
+    ensures { λ r. ⌜ (r ≡ count (now (image .entry)) k) × (r < wordEnd) ⌝ }
+{
+    wide(image[8 + 3 * k])
+}
+
+// Where region k ends.
+fn region_end(image: &[u32], k: usize, width: usize) -> usize
+    requires { ⌜ (headerWords ≤ length (now image)) × (k ≤ 6) ⌝ }
+    requires { ⌜ width ≤ 7 ⌝ }
+    ensures { λ r. ⌜ r ≡ regionEnd (now (image .entry)) k width ⌝ }
+{
+    offset(image, k) + width * capacity(image, k)
+}
+
+// Whether pending pairs are there exactly when asked.
+fn pending_when_asked(state: u32, pending: u32) -> bool
+    ensures { λ r. ⌜ r ≡ cond (eqb state idle) (isZero pending) (leb 1 pending) ⌝ }
+{
+    if state == IDLE {
+        pending == 0
+    } else {
+        1 <= pending
+    }
+}
+
+// Whether the header is whole, and its first words are right: format, state, name count, `__functor`.
+fn header_right(image: &[u32]) -> bool
+    ensures { λ r. ⌜ r ≡ headerRight (now (image .entry)) ⌝ }
+{
+    if image.len() < image::HEADER_WORDS {
+        return false;
+    }
+    (image[FORMAT_AT] == FORMAT)
+        & (image[STATE_AT] <= ASKED)
+        & pending_when_asked(image[STATE_AT], image[PENDING_COUNT_AT])
+        & (image[NAMES_AT] <= NAMES_MOST)
+        & (image[FUNCTOR_AT] <= image[NAMES_AT])
+}
+
+// Whether region k starts at a word, its capacity is within a maximum, and its count within its capacity.
+fn region_laid(image: &[u32], k: usize, most: u32, at: usize) -> bool
+    requires { ⌜ (headerWords ≤ length (now image)) × (k ≤ 6) ⌝ }
+    ensures { λ r. ⌜ r ≡ regionLaid (now (image .entry)) k most at ⌝ }
+{
+    let size = capacity(image, k);
+    (offset(image, k) == at) & (size <= wide(most)) & (count(image, k) <= size)
+}
+
+// Whether the six regions follow the header without gaps, and end at the slice's end.
+fn regions_laid(image: &[u32]) -> bool
+    requires { ⌜ headerWords ≤ length (now image) ⌝ }
+    ensures { λ r. ⌜ r ≡ regionsLaid (now (image .entry)) ⌝ }
+{
+    region_laid(image, ENTRIES, ENTRIES_MOST, image::HEADER_WORDS)
+        & region_laid(
+            image,
+            FIELDS,
+            FIELDS_MOST,
+            region_end(image, ENTRIES, image::ENTRY_WIDTH),
+        )
+        & region_laid(
+            image,
+            BOUNDS,
+            BOUNDS_MOST,
+            region_end(image, FIELDS, image::FIELD_WIDTH),
+        )
+        & region_laid(
+            image,
+            VISITED,
+            VISITED_MOST,
+            region_end(image, BOUNDS, image::BOUND_WIDTH),
+        )
+        & region_laid(
+            image,
+            PENDING,
+            PENDING_MOST,
+            region_end(image, VISITED, image::VISITED_WIDTH),
+        )
+        & region_laid(
+            image,
+            EQUALS,
+            EQUALS_MOST,
+            region_end(image, PENDING, image::PENDING_WIDTH),
+        )
+        & (region_end(image, EQUALS, image::EQUALS_WIDTH) == image.len())
+}
+
+// Whether all words of region k past its count are 0.
+fn rest_zero(image: &[u32], k: usize, width: usize) -> bool
+    requires { ⌜ RegionInside (now image) k width ⌝ }
+    ensures { λ r. ⌜ r ≡ restZero (now (image .entry)) k width ⌝ }
+{
+    let start = offset(image, k) + width * count(image, k);
+    let end = region_end(image, k, width);
+    zeros(&image[start..end])
+}
+
+// Whether all words past a count are 0.
+fn rests_zero(image: &[u32]) -> bool
+    requires { ⌜ Laid (now image) ⌝ }
+    ensures { λ r. ⌜ r ≡ restsZero (now (image .entry)) ⌝ }
+{
+    rest_zero(image, ENTRIES, image::ENTRY_WIDTH)
+        & rest_zero(image, FIELDS, image::FIELD_WIDTH)
+        & rest_zero(image, BOUNDS, image::BOUND_WIDTH)
+        & rest_zero(image, VISITED, image::VISITED_WIDTH)
+        & rest_zero(image, PENDING, image::PENDING_WIDTH)
+        & rest_zero(image, EQUALS, image::EQUALS_WIDTH)
+}
+
+// Whether the break words say no more than their kind has: nothing, a pair, or a pair and a name.
+fn break_right(image: &[u32]) -> bool
+    requires { ⌜ Laid (now image) ⌝ }
+    ensures { λ r. ⌜ r ≡ breakRight (storeOf (now (image .entry))) ⌝ }
+{
+    let kind = image[BREAK_KIND_AT];
+    let sub = image[BREAK_SUB_AT];
+    let sup = image[BREAK_SUP_AT];
+    let name = image[BREAK_NAME_AT];
+    let entries = image[ENTRIES_COUNT_AT];
+    if kind == UNBROKEN {
+        (sub == 0) & (sup == 0) & (name == 0)
+    } else if kind == MISMATCHED {
+        (sub < entries) & (sup < entries) & (name == 0)
+    } else {
+        (sub < entries) & (sup < entries) & ((kind == FIELD_MISSING) & (name < image[NAMES_AT]))
+    }
+}
+
+// Entry i's words.
+fn entry_words(image: &[u32], i: u32) -> EntryWords
+    requires { ⌜ Laid (now image) ⌝ }
+    requires { ⌜ i < length (entriesOf (now image)) ⌝ }
+    ensures { λ r. ⌜ entryTold r ≡ entryAt (entriesOf (now (image .entry))) i ⌝ }
+{
+    EntryWords {
+        kind: image::entry_word(image, i, 0),
+        x: image::entry_word(image, i, 1),
+        y: image::entry_word(image, i, 2),
+        z: image::entry_word(image, i, 3),
+        flags: image::entry_word(image, i, 4),
+        spread: image::entry_word(image, i, 5),
+        negation: image::entry_word(image, i, 6),
+    }
+}
+
+// Whether x is a component, and whether x and y are.
+fn one_component(e: EntryWords) -> bool
+    ensures { λ r. ⌜ r ≡ oneComponent (entryTold e) ⌝ }
+{
+    (e.kind == LIST) | (e.kind == NAMED) | (e.kind == NEG)
+}
+
+fn two_components(e: EntryWords) -> bool
+    ensures { λ r. ⌜ r ≡ twoComponents (entryTold e) ⌝ }
+{
+    (e.kind == LAMBDA) | (e.kind == INTER) | (e.kind == UNION)
+}
+
+// Whether z is a component: an attrset's dynamic type.
+fn has_dynamic_type(e: EntryWords) -> bool
+    ensures { λ r. ⌜ r ≡ hasDynamicType (entryTold e) ⌝ }
+{
+    (e.kind == ATTRSET) & image::says_dynamic(e.flags)
+}
+
+// Whether the kind is one of the nine.
+fn kind_known(e: EntryWords) -> bool
+    ensures { λ r. ⌜ r ≡ kindKnown (entryTold e) ⌝ }
+{
+    e.kind <= UNION
+}
+
+// Whether a primitive is one of the eight.
+fn primitive_known(e: EntryWords) -> bool
+    ensures { λ r. ⌜ r ≡ primitiveKnown (entryTold e) ⌝ }
+{
+    !(e.kind == PRIMITIVE) | (e.x <= NUMBER)
+}
+
+// Whether every component is below its owner, entry i.
+fn components_below(i: u32, e: EntryWords) -> bool
+    ensures { λ r. ⌜ r ≡ componentsBelow i (entryTold e) ⌝ }
+{
+    let two = two_components(e);
+    (!(one_component(e) | two) | (e.x < i))
+        & (!two | (e.y < i))
+        & (!has_dynamic_type(e) | (e.z < i))
+}
+
+// Whether words with no use are 0.
+fn unused_zero(e: EntryWords) -> bool
+    ensures { λ r. ⌜ r ≡ unusedZero (entryTold e) ⌝ }
+{
+    (two_components(e) | (e.kind == NAMED) | (e.kind == ATTRSET) | (e.y == 0))
+        & (has_dynamic_type(e) | (e.z == 0))
+        & (!((e.kind == ATTRSET) & (e.y == 0)) | (e.x == 0))
+}
+
+// Whether no flag is set that the kind does not have.
+fn flags_known(e: EntryWords) -> bool
+    ensures { λ r. ⌜ r ≡ flagsKnown (entryTold e) ⌝ }
+{
+    if e.kind == ATTRSET {
+        e.flags <= ATTRSET_FLAGS
+    } else {
+        e.flags <= MARK_FLAG
+    }
+}
+
+// Entry n's spread; past the end, 0.
+fn spread_at(image: &[u32], n: u32) -> usize
+    requires { ⌜ Laid (now image) ⌝ }
+    ensures { λ r. ⌜ (r ≡ spreadAt (entriesOf (now (image .entry))) n) × (r < wordEnd) ⌝ }
+{
+    if n < image[ENTRIES_COUNT_AT] {
+        wide(image::entry_word(image, n, SPREAD_WORD))
+    } else {
+        0
+    }
+}
+
+// The spread that an entry with this kind, x and y has.
+fn spread_of(image: &[u32], kind: u32, x: u32, y: u32) -> usize
+    requires { ⌜ Laid (now image) ⌝ }
+    ensures { λ r. ⌜ r ≡ spreadOf (entriesOf (now (image .entry))) kind x y ⌝ }
+{
+    if kind <= ATTRSET {
+        1
+    } else if kind <= NEG {
+        1 + spread_at(image, x)
+    } else {
+        1 + spread_at(image, x) + spread_at(image, y)
+    }
+}
+
+// Whether the spread is the one that its components give, and within its maximum.
+fn spread_right(image: &[u32], e: EntryWords) -> bool
+    requires { ⌜ Laid (now image) ⌝ }
+    ensures { λ r. ⌜ r ≡ spreadRight (entriesOf (now (image .entry))) (entryTold e) ⌝ }
+{
+    (wide(e.spread) == spread_of(image, e.kind, e.x, e.y)) & (e.spread <= SPREAD_MOST)
+}
+
+// Whether the negation is none, or the number of an entry plus 1.
+fn negation_known(image: &[u32], e: EntryWords) -> bool
+    requires { ⌜ Laid (now image) ⌝ }
+    ensures { λ r. ⌜ r ≡ negationKnown (entriesOf (now (image .entry))) (entryTold e) ⌝ }
+{
+    e.negation <= image[ENTRIES_COUNT_AT]
+}
+
+// Whether so many field records from the first on have strictly ascending names below the name count, and entries below
+// their owner, entry i. A name is at least `least`, one more than the name before.
+fn own_right(image: &[u32], i: u32, first: u32, fields: u32) -> bool
+    requires { ⌜ Laid (now image) ⌝ }
+    requires { ⌜ first + fields ≤ length (fieldsIn (now image)) ⌝ }
+    ensures { λ r. ⌜ r ≡ ownRight (storeOf (now (image .entry)) .names) i (take fields (drop first (fieldsIn (now (image .entry))))) ⌝ }
+{
+    let names = image[NAMES_AT];
+    let mut ok = true;
+    let mut least = 0;
+    let mut k = 0;
+    while k < fields {
+        let name = image::field_word(image, first + k, 0);
+        let entry = image::field_word(image, first + k, 1);
+        ok = ok & ((least <= wide(name)) & (name < names) & (entry < i));
+        least = wide(name) + 1;
+        k += 1;
+    }
+    ok
+}
+
+// Whether the field records of an attrset, entry i, lie inside the field count and are right.
+fn attrset_right(image: &[u32], i: u32, e: EntryWords) -> bool
+    requires { ⌜ Laid (now image) ⌝ }
+    ensures { λ r. ⌜ r ≡ fieldsRight (fieldsIn (now (image .entry))) (storeOf (now (image .entry)) .names) i (entryTold e) ⌝ }
+{
+    if e.kind != ATTRSET {
+        return true;
+    }
+    if wide(image[FIELDS_COUNT_AT]) < wide(e.x) + wide(e.y) {
+        return false;
+    }
+    own_right(image, i, e.x, e.y)
+}
+
+// Whether entry i is right: each of the model's tests, in its order.
+fn entry_right(image: &[u32], i: u32) -> bool
+    requires { ⌜ Laid (now image) ⌝ }
+    requires { ⌜ i < length (entriesOf (now image)) ⌝ }
+    ensures { λ r. ⌜ r ≡ entryRightIn (now (image .entry)) i (entryAt (entriesOf (now (image .entry))) i) ⌝ }
+{
+    let e = entry_words(image, i);
+    kind_known(e)
+        & primitive_known(e)
+        & components_below(i, e)
+        & unused_zero(e)
+        & flags_known(e)
+        & spread_right(image, e)
+        & negation_known(image, e)
+        & attrset_right(image, i, e)
+}
+
+// Whether every entry is right.
+fn entries_right(image: &[u32]) -> bool
+    requires { ⌜ Laid (now image) ⌝ }
+    ensures { λ r. ⌜ r ≡ allFrom (entryRightIn (now (image .entry))) 0 (entriesOf (now (image .entry))) ⌝ }
+{
+    let n = image[ENTRIES_COUNT_AT];
+    let mut ok = true;
+    let mut i = 0;
+    while i < n {
+        ok = ok & entry_right(image, i);
+        i += 1;
+    }
+    ok
+}
+
+// Whether field record i, owned or not, has the number of an entry, and is optional or not.
+fn field_right(image: &[u32], i: u32) -> bool
+    requires { ⌜ Laid (now image) ⌝ }
+    requires { ⌜ i < length (fieldsIn (now image)) ⌝ }
+    ensures { λ r. ⌜ r ≡ fieldRight (entriesOf (now (image .entry))) (fieldAt (fieldsIn (now (image .entry))) i) ⌝ }
+{
+    (image::field_word(image, i, 1) < image[ENTRIES_COUNT_AT])
+        & (image::field_word(image, i, 2) <= 1)
+}
+
+// Whether every field record is right.
+fn fields_right(image: &[u32]) -> bool
+    requires { ⌜ Laid (now image) ⌝ }
+    ensures { λ r. ⌜ r ≡ all (fieldRight (entriesOf (now (image .entry)))) (fieldsIn (now (image .entry))) ⌝ }
+{
+    let n = image[FIELDS_COUNT_AT];
+    let mut ok = true;
+    let mut i = 0;
+    while i < n {
+        ok = ok & field_right(image, i);
+        i += 1;
+    }
+    ok
+}
+
+// Whether entry v is there, and is a variable.
+fn is_variable(image: &[u32], v: u32) -> bool
+    requires { ⌜ Laid (now image) ⌝ }
+    ensures { λ r. ⌜ r ≡ (isEntry (entriesOf (now (image .entry))) v && isAt (entriesOf (now (image .entry))) variable v) ⌝ }
+{
+    if v < image[ENTRIES_COUNT_AT] {
+        image::entry_word(image, v, KIND_WORD) == VARIABLE
+    } else {
+        false
+    }
+}
+
+// Whether bound record i belongs to a variable, on one of the two sides, and has the number of an entry.
+fn bound_right(image: &[u32], i: u32) -> bool
+    requires { ⌜ Laid (now image) ⌝ }
+    requires { ⌜ i < length (boundsAll (now image)) ⌝ }
+    ensures { λ r. ⌜ r ≡ boundRight (entriesOf (now (image .entry))) (boundAt (boundsAll (now (image .entry))) i) ⌝ }
+{
+    is_variable(image, image::bound_word(image, i, 0))
+        & (image::bound_word(image, i, 1) <= UPPER)
+        & (image::bound_word(image, i, 2) < image[ENTRIES_COUNT_AT])
+}
+
+// Whether every bound record is right.
+fn bounds_right(image: &[u32]) -> bool
+    requires { ⌜ Laid (now image) ⌝ }
+    ensures { λ r. ⌜ r ≡ all (boundRight (entriesOf (now (image .entry)))) (boundsAll (now (image .entry))) ⌝ }
+{
+    let n = image[BOUNDS_COUNT_AT];
+    let mut ok = true;
+    let mut i = 0;
+    while i < n {
+        ok = ok & bound_right(image, i);
+        i += 1;
+    }
+    ok
+}
+
+// Whether every number in the pairs of region k, visited, pending or equals, is below the entry count.
+fn pairs_right(image: &[u32], k: usize) -> bool
+    requires { ⌜ RegionInside (now image) k 2 ⌝ }
+    ensures { λ r. ⌜ r ≡ all (pairRight (entriesOf (now (image .entry)))) (recordsOf pairOf 2 (now (image .entry)) k) ⌝ }
+{
+    let start = offset(image, k);
+    let end = start + 2 * count(image, k);
+    below(&image[start..end], image[ENTRIES_COUNT_AT])
+}
+
+// Whether every record is right.
+fn records_right(image: &[u32]) -> bool
+    requires { ⌜ Laid (now image) ⌝ }
+    ensures { λ r. ⌜ r ≡ recordsRight (table (now (image .entry))) ⌝ }
+{
+    break_right(image)
+        & entries_right(image)
+        & fields_right(image)
+        & bounds_right(image)
+        & pairs_right(image, VISITED)
+        & pairs_right(image, PENDING)
+        & pairs_right(image, EQUALS)
+}
+
+// Whether the words are a well formed image.
+pub fn check(image: &[u32]) -> bool
+    ensures { λ r. ⌜ r ≡ wellFormed (now (image .entry)) ⌝ }
+{
+    if !header_right(image) {
+        return false;
+    }
+    if !regions_laid(image) {
+        return false;
+    }
+    rests_zero(image) & records_right(image)
+}
