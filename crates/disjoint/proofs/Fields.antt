@@ -10,7 +10,7 @@ use lib.ListN.{length, take, drop}
 use lib.Seq.{drop-cons}
 use lib.Dec.{eqb}
 use borrow.Author.Tests.{eq-eqb, ne-eqb, eqb-true}
-use Rattle.model.specs.Lists.{isSome}
+use Rattle.model.specs.Lists.{isSome, any}
 use Rattle.model.specs.Format.{fieldsMost, attrset}
 use Rattle.model.specs.Table.{Entry, Field, Store, is}
 use Rattle.model.specs.Shapes.{fieldsOf, fieldNamed, functorIn, functorOf, hasFunctor}
@@ -91,15 +91,21 @@ module _ (fs : List Field) where
   unfolding numberNamed
   named-inside first count name h = found-inside count first name h
 
-  pub found-some : (r : Found) → isSome (fieldFound fs r) ≡ isFound r
+  found-some : (r : Found) → isSome (fieldFound fs r) ≡ isFound r
   unfolding isSome
   found-some (At i) = refl
   found-some Nothing = refl
+
+  pub named-some : (first count name : ℕ) → first + count ≤ length fs → isSome (fieldNamed (take count (drop first fs)) name) ≡ isFound (numberNamed fs first count name)
+  named-some first count name h = ap isSome (sym (named-is first count name h)) ∙ found-some (numberNamed fs first count name)
 
   pub functor-number : (first count word : ℕ) → first + count ≤ length fs → fieldFound fs (functorNumber fs first count word) ≡ functorIn (take count (drop first fs)) word
   unfolding functorNumber functorIn
   functor-number first count zero h = refl
   functor-number first count (suc name) h = named-is first count name h
+
+  pub functor-some : (first count word : ℕ) → first + count ≤ length fs → isSome (functorIn (take count (drop first fs)) word) ≡ isFound (functorNumber fs first count word)
+  functor-some first count word h = ap isSome (sym (functor-number first count word h)) ∙ found-some (functorNumber fs first count word)
 
   pub functor-number-inside : (first count word : ℕ) → first + count ≤ length fs → FoundInside fs (functorNumber fs first count word)
   unfolding functorNumber
@@ -133,3 +139,17 @@ module _ (s : Store) (e : Entry) (h : e .kind ≡ attrset → e .x + e .y ≤ le
   pub functor-has : isFound (functorRecord s e) ≡ hasFunctor s e
   unfolding hasFunctor
   functor-has = sym (found-some (s .fields) (functorRecord s e)) ∙ ap isSome functor-is
+
+-- some field passes a test
+module _ (f : Field → Bool) (fs : List Field) (j e : ℕ) where
+  pub stop : j < e → e ≤ length fs → f (fieldAt fs j) ≡ true → any f (rest fs j e) ≡ true
+  unfolding any
+  stop h l q = rw (next fs j e h l, q)
+
+  pub go-on : j < e → e ≤ length fs → f (fieldAt fs j) ≡ false → any f (rest fs j e) ≡ any f (rest fs (j + 1) e)
+  unfolding any
+  go-on h l q = rw (next fs j e h l, q)
+
+  pub nothing : e ≤ j → any f (rest fs j e) ≡ false
+  unfolding any
+  nothing h = rw (none-left fs j e h)

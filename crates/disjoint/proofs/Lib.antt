@@ -2,3 +2,4 @@ pub mod Fields
 pub mod Views
 pub mod Rounds
 pub mod Searches
+pub mod Shapes

@@ -127,10 +127,7 @@ fn lacks_field(image: &[u32], a: Attrset, j: u32) -> bool
         return false;
     }
     let name = image::field_word(image, j, 0);
-    match field_named(image, a.first, a.count, name) {
-        Found::At(_) => false,
-        Found::Nothing => true,
-    }
+    !is_found(field_named(image, a.first, a.count, name))
 }
 
 // Some field of b is not optional and no field of a.

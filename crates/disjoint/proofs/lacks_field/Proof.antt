@@ -4,6 +4,7 @@ use Rattle.disjoint.proofs.lacks_field.Tie as tie
 use Rattle.disjoint.proofs.lacks_field.Reads as reads
 use Rattle.disjoint.proofs.lacks_field.Lts as lts
 use Rattle.disjoint.proofs.field_named.Reads as field-named-reads
+use Rattle.disjoint.proofs.is_found.Reads as is-found-reads
 use Rattle.image.proofs.field_word.Reads as field-word-reads
 
 -- src/lib.rt:126:8
@@ -18,25 +19,17 @@ returns c = ?
 field-word-requires-2 : tie.Need-field-word-requires-2
 field-word-requires-2 c κs = search needs
 
--- src/lib.rt:130:11
+-- src/lib.rt:130:15
 field-named-requires : tie.Need-field-named-requires
 field-named-requires c κs = search needs
 
--- src/lib.rt:131:25
-enum-told : tie.Need-enum-told
-enum-told c = search needs
-
--- src/lib.rt:132:27
-enum-told-2 : tie.Need-enum-told-2
-enum-told-2 c = search needs
+-- src/lib.rt:130:6
+is-found-requires : tie.Need-is-found-requires
+is-found-requires c κs = search needs
 
 -- src/lib.rt:120:1
 returns-2 : tie.Need-returns-2
 returns-2 c = ?
-
--- src/lib.rt:120:1
-returns-3 : tie.Need-returns-3
-returns-3 c = ?
 
 pub lacks-field-spec : {M : Type 1} → statement M
 lacks-field-spec =
@@ -46,7 +39,5 @@ lacks-field-spec =
     returns
     field-word-requires-2
     field-named-requires
-    enum-told
-    enum-told-2
-    returns-2
-    returns-3)
+    is-found-requires
+    returns-2)
