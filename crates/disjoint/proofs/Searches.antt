@@ -6,11 +6,15 @@ use mathlib.Core.List.{List, [], _∷_}
 use mathlib.Core.Bool.{Bool, true, false, _||_}
 use lib.ListN.{length}
 use lib.Dec.{eqb}
+use types.Run.{OneOf, miss}
+use denote.Enum.Declared.{tagOf}
+use borrow.Author.Tests.{eq-eqb, ne-eqb}
 use Rattle.model.specs.Table.{Entry, Store, entryAt, is}
 use Rattle.model.specs.Shapes.{disjoint, holdsBy, holdsWithin, holdsVariable, memberBy, memberWithin, unionMember, disjointBy, disjointWithin, disjointFromSup}
 use Rattle.model.specs.Calls.{readOut}
 use Rattle.model.specs.declared.Entry.{Entry as EntryOut}
 use Rattle.model.specs.declared.Entry.the-variants as E
+use Rattle.model.proofs.Entry.{the-type}
 use Rattle.laws.specs.Good.{Good}
 use Rattle.disjoint.proofs.Views.{Reads, a-variable, a-primitive, a-list, a-lambda, an-attrset, a-named, a-neg, an-inter, a-union, Under, reads, under}
 use Rattle.disjoint.proofs.Rounds.{enough}
@@ -86,6 +90,40 @@ module _ (again : ℕ → Bool) (e : Entry) where
   disjoint-read s sup (a-neg q) = rw q
   disjoint-read s sup (an-inter q) = rw q
   disjoint-read s sup (a-union q) = rw q
+
+-- what is left for the arm `_` of each
+holds-other : (again : ℕ → Bool) (o : EntryOut) → OneOf (1 ∷ 2 ∷ 3 ∷ 4 ∷ 6 ∷ 8 ∷ []) (tagOf the-type o) → false ≡ holdsIn again o
+holds-other again (E.Variable l) h = absurd (miss (1 ∷ 2 ∷ 3 ∷ 4 ∷ 6 ∷ 8 ∷ []) 0 tt h)
+holds-other again (E.Primitive p) h = refl
+holds-other again (E.List x) h = refl
+holds-other again (E.Lambda p b) h = refl
+holds-other again (E.AttrSet a) h = refl
+holds-other again (E.Named x l) h = absurd (miss (1 ∷ 2 ∷ 3 ∷ 4 ∷ 6 ∷ 8 ∷ []) 5 tt h)
+holds-other again (E.Neg x) h = refl
+holds-other again (E.Inter x y) h = absurd (miss (1 ∷ 2 ∷ 3 ∷ 4 ∷ 6 ∷ 8 ∷ []) 7 tt h)
+holds-other again (E.Union x y) h = refl
+
+member-other : (again : ℕ → Bool) (o : EntryOut) → OneOf (0 ∷ 1 ∷ 2 ∷ 3 ∷ 4 ∷ 6 ∷ 7 ∷ []) (tagOf the-type o) → false ≡ memberIn again o
+member-other again (E.Variable l) h = refl
+member-other again (E.Primitive p) h = refl
+member-other again (E.List x) h = refl
+member-other again (E.Lambda p b) h = refl
+member-other again (E.AttrSet a) h = refl
+member-other again (E.Named x l) h = absurd (miss (0 ∷ 1 ∷ 2 ∷ 3 ∷ 4 ∷ 6 ∷ 7 ∷ []) 5 tt h)
+member-other again (E.Neg x) h = refl
+member-other again (E.Inter x y) h = refl
+member-other again (E.Union x y) h = absurd (miss (0 ∷ 1 ∷ 2 ∷ 3 ∷ 4 ∷ 6 ∷ 7 ∷ []) 8 tt h)
+
+inter-other : (again : ℕ → Bool) (other : Bool) (o : EntryOut) → OneOf (0 ∷ 1 ∷ 2 ∷ 3 ∷ 4 ∷ 5 ∷ 6 ∷ 8 ∷ []) (tagOf the-type o) → other ≡ throughInter again other o
+inter-other again other (E.Variable l) h = refl
+inter-other again other (E.Primitive p) h = refl
+inter-other again other (E.List x) h = refl
+inter-other again other (E.Lambda p b) h = refl
+inter-other again other (E.AttrSet a) h = refl
+inter-other again other (E.Named x l) h = refl
+inter-other again other (E.Neg x) h = refl
+inter-other again other (E.Inter x y) h = absurd (miss (0 ∷ 1 ∷ 2 ∷ 3 ∷ 4 ∷ 5 ∷ 6 ∷ 8 ∷ []) 7 tt h)
+inter-other again other (E.Union x y) h = refl
 
 -- a round looks at smaller numbers only
 module _ (p q : ℕ → Bool) (i : ℕ) (h : (x : ℕ) → x < i → p x ≡ q x) where
@@ -175,12 +213,26 @@ module _ (s : Store) (good : Good s) where
     unfolding disjointFromSup
     disjoint-opened sup = disjoint-rounds sup (suc i) i lt (omega arith) ∙ disjoint-read _ _ s sup (reads s good i lt)
 
-    module _ {o : EntryOut} (eq : readOut (entryAt (s .entries) i) ≡ o) where
+    module _ {o : EntryOut} (eq : o ≡ readOut (entryAt (s .entries) i)) where
       pub holds-step : holdsVariable (s .entries) i ≡ holdsIn (λ x. holdsVariable (s .entries) x) o
-      holds-step = rw eq at holds-opened
+      holds-step = rw eq holds-opened
 
-      pub member-step : (m : ℕ) → unionMember (s .entries) m i ≡ (eqb i m || memberIn (λ x. unionMember (s .entries) m x) o)
-      member-step m = rw eq at (member-opened m)
+      pub member-step : (m : ℕ) → (i ≡ m → ⊥) → unionMember (s .entries) m i ≡ memberIn (λ x. unionMember (s .entries) m x) o
+      member-step m ne = rw eq (member-opened m ∙ rw (ne-eqb i m ne))
 
       pub disjoint-step : (sup : Entry) → disjointFromSup s sup i ≡ throughInter (λ x. disjointFromSup s sup x) (disjoint s (entryAt (s .entries) i) sup) o
-      disjoint-step sup = rw eq at (disjoint-opened sup)
+      disjoint-step sup = rw eq (disjoint-opened sup)
+
+      -- the arm `_` of each
+      pub holds-none : OneOf (1 ∷ 2 ∷ 3 ∷ 4 ∷ 6 ∷ 8 ∷ []) (tagOf the-type o) → false ≡ holdsVariable (s .entries) i
+      holds-none h = holds-other (λ x. holdsVariable (s .entries) x) o h ∙ sym holds-step
+
+      pub member-none : (m : ℕ) → (i ≡ m → ⊥) → OneOf (0 ∷ 1 ∷ 2 ∷ 3 ∷ 4 ∷ 6 ∷ 7 ∷ []) (tagOf the-type o) → false ≡ unionMember (s .entries) m i
+      member-none m ne h = member-other (λ x. unionMember (s .entries) m x) o h ∙ sym (member-step m ne)
+
+      pub disjoint-none : (sup : Entry) → OneOf (0 ∷ 1 ∷ 2 ∷ 3 ∷ 4 ∷ 5 ∷ 6 ∷ 8 ∷ []) (tagOf the-type o) → disjoint s (entryAt (s .entries) i) sup ≡ disjointFromSup s sup i
+      disjoint-none sup h = inter-other (λ x. disjointFromSup s sup x) (disjoint s (entryAt (s .entries) i) sup) o h ∙ sym (disjoint-step sup)
+
+pub member-self : (es : List Entry) (m n : ℕ) → n ≡ m → true ≡ unionMember es m n
+unfolding unionMember memberWithin
+member-self es m n q = rw (eq-eqb n m q)

@@ -9,8 +9,8 @@ use lib.Dec.{eqb}
 use types.Run.{OneOf, miss}
 use denote.Enum.Declared.{tagOf}
 use borrow.Author.Tests.{eq-eqb, ne-eqb, eqb-true}
-use Rattle.model.specs.Lists.{isZero, isSome}
-use Rattle.model.specs.Format.{primitive, lambda, attrset, named}
+use Rattle.model.specs.Lists.{isZero, isSome, any}
+use Rattle.model.specs.Format.{int, float, number, primitive, lambda, attrset, named}
 use Rattle.model.specs.Table.{Entry, Field, Store, entryAt, is, isOpen}
 use Rattle.model.specs.Shapes.{fieldsOf, functorOf, hasFunctor, underNumber, primitivesDisjoint, lacksField, closedLacks, attrsetsDisjoint, hasShape, sameShapeDisjoint, disjoint, compatible, fieldNamed}
 use Rattle.model.specs.Calls.{readOut}
@@ -25,7 +25,7 @@ use Rattle.disjoint.specs.declared.Shape.{Shape}
 use Rattle.disjoint.specs.declared.Shape.the-variants as S
 use Rattle.disjoint.specs.Fields.{Inside, fieldsHeld, numberNamed, functorNumber, functorRecord, isFound}
 use Rattle.disjoint.specs.Shapes.{shapeOf, ShapeInside, lacksSome, closedLacksIn, attrsetsDisjointIn, callable, shapesDisjoint}
-use Rattle.disjoint.proofs.Fields.{named-some, functor-some}
+use Rattle.disjoint.proofs.Fields.{rest, whole, named-some, functor-some}
 use Rattle.disjoint.proofs.Views.{attrsetOf, Reads, a-variable, a-primitive, a-list, a-lambda, an-attrset, a-named, a-neg, an-inter, a-union, reads, inside}
 
 -- an optional field is not lacking, and any other is where its name finds nothing
@@ -37,6 +37,18 @@ module _ (fs : List Field) (a : Attrset) (h : Inside fs a) (f : Field) where
   pub required : f .optional ≡ 0 → not (isFound (numberNamed fs (a .first) (a .count) (f .name))) ≡ lacksField (fieldsHeld fs a) f
   unfolding lacksField
   required z = rw (eq-eqb _ _ z, named-some fs (a .first) (a .count) (f .name) h)
+
+pub lacks-from : (fs : List Field) (a b : Attrset) → lacksSome fs a b ≡ any (lacksField (fieldsHeld fs a)) (rest fs (b .first) (b .first + b .count))
+unfolding lacksSome
+lacks-from fs a b = ap (any (lacksField (fieldsHeld fs a))) (whole fs (b .first) (b .count))
+
+pub open-lacks : (fs : List Field) (a b : Attrset) → a .is_open ≡ true → false ≡ closedLacksIn fs a b
+unfolding closedLacksIn
+open-lacks fs a b q = ap (λ (o : Bool). not o && lacksSome fs a b) (sym q)
+
+pub shut-lacks : (fs : List Field) (a b : Attrset) → a .is_open ≡ false → lacksSome fs a b ≡ closedLacksIn fs a b
+unfolding closedLacksIn
+shut-lacks fs a b q = ap (λ (o : Bool). not o && lacksSome fs a b) (sym q)
 
 -- the functor's record, of an entry that reads out so
 abbrev pub functorBy : Store → EntryOut → Found
@@ -118,6 +130,13 @@ shape-tests : Unit {0}
 unfolding disjoint hasShape sameShapeDisjoint attrsetsDisjoint closedLacks attrsetsDisjointIn closedLacksIn lacksSome fieldsOf hasFunctor functorOf isSome is
 shape-tests = tt
 
+-- of shapes that are known to be these
+pub shapes-are : (s : Store) {a b x y : Shape} → a ≡ x → b ≡ y → shapesDisjoint s x y ≡ shapesDisjoint s a b
+shapes-are s p q = rw (p, q)
+
+pub attrset-inside : (fs : List Field) {x : Shape} {a : Attrset} → x ≡ S.AttrSet a → ShapeInside fs x → Inside fs a
+attrset-inside fs p h = rw p at h
+
 module _ (s : Store) (a b : Entry) where
   lambda-attrset : a .kind ≡ lambda → b .kind ≡ attrset → disjoint s a b ≡ not (hasFunctor s b)
   unfolding disjoint hasShape is
@@ -150,6 +169,28 @@ module _ (s : Store) (a b : Entry) where
   by-shape (with-fields p) (lambdas q) g h = attrset-lambda p q ∙ ap not (or-false (hasFunctor s a) ∙ has-callable s a p g)
   by-shape (with-fields p) (with-fields q) g h = rw (p, q)
   by-shape (with-fields p) (opaque q) g h = rw (p, q)
+
+-- primitives
+and-true : (b : Bool) → (b && true) ≡ b
+and-true true = refl
+and-true false = refl
+
+and-false : (b : Bool) → (b && false) ≡ false
+and-false true = refl
+and-false false = refl
+
+module _ (p q : ℕ) where
+  pub int-under : q ≡ number → p ≡ int → true ≡ underNumber p q
+  unfolding underNumber
+  int-under h k = rw (h, k)
+
+  pub float-under : q ≡ number → (p ≡ int → ⊥) → eqb p float ≡ underNumber p q
+  unfolding underNumber
+  float-under h n = rw (h, ne-eqb p int n) (sym (and-true (eqb p float)))
+
+  pub not-under : (q ≡ number → ⊥) → false ≡ underNumber p q
+  unfolding underNumber
+  not-under n = rw (ne-eqb q number n) (sym (and-false (eqb p int || eqb p float)))
 
 -- `compatible`, of two kinds that differ
 module _ (s : Store) (a b : Entry) where

@@ -1,3 +1,9 @@
+use mathlib.Core.Path.{_≡_, sym, ap, _∙_}
+use mathlib.Core.Bool.{true, false}
+use native.Mathlib.Omega.{arith}
+use borrow.Author.Needs.{needs}
+use Rattle.disjoint.proofs.Views.{under}
+use Rattle.disjoint.proofs.Searches.{disjoint-step, disjoint-none}
 use Prim.Native.Nat.{ℕ, _<_}
 use borrow.Fn.Kinds.{In}
 use borrow.Fn.PlainCycle.{Measures, is, falls, and}
@@ -10,7 +16,7 @@ use Rattle.disjoint.proofs.+disjoint_from_sup.{statement}
 use Rattle.disjoint.proofs.+disjoint_from_sup.Tie.{close}
 
 abbrev μ-disjoint-from-sup : Measures 1 disjoint-from-sup-kinds.ps ℕ
-μ-disjoint-from-sup κs a = ?
+μ-disjoint-from-sup κs a = a .1 .1 .0
 
 abbrev disjoint-from-sup-at : ℕ → In 1 disjoint-from-sup-kinds.ps
 disjoint-from-sup-at t =
@@ -37,7 +43,7 @@ disjoint-from-sup-entry-requires : (t : ℕ) → disjoint-from-sup-lts.Need-entr
   disjoint-reads.Asked,
   disjoint-reads.Learnt,
 ) (disjoint-from-sup-at t) disjoint-from-sup.Post
-disjoint-from-sup-entry-requires t c κs = ?
+disjoint-from-sup-entry-requires t c κs = let p = c .before .pre in (p .1 .0, p .1 .1 .1 .1)
 
 -- src/lib.rt:350:22
 disjoint-from-sup-enum-known-e : (t : ℕ) → disjoint-from-sup-lts.Need-enum-known-e (
@@ -48,7 +54,7 @@ disjoint-from-sup-enum-known-e : (t : ℕ) → disjoint-from-sup-lts.Need-enum-k
   disjoint-reads.Asked,
   disjoint-reads.Learnt,
 ) (disjoint-from-sup-at t) disjoint-from-sup.Post
-disjoint-from-sup-enum-known-e t c = ?
+disjoint-from-sup-enum-known-e t c = search needs
 
 -- src/lib.rt:351:16
 disjoint-from-sup-disjoint-from-sup-requires :
@@ -60,7 +66,10 @@ disjoint-from-sup-disjoint-from-sup-requires :
       disjoint-reads.Asked,
       disjoint-reads.Learnt,
     ) (disjoint-from-sup-at t) disjoint-from-sup.Post
-disjoint-from-sup-disjoint-from-sup-requires t c κs = ?
+disjoint-from-sup-disjoint-from-sup-requires t c κs =
+    let p = c .before .before .before .before .before .pre in
+    let u = under _ (p .1 .1 .0) _ (p .1 .1 .1 .1) _ (sym (c .before .before .before .entry .ensures) ∙ c .before .e .given .1) in
+    (omega arith, (p .1 .0, (p .1 .1 .0, (p .1 .1 .1 .0, omega arith))))
 
 -- src/lib.rt:354:17
 disjoint-from-sup-disjoint-from-sup-requires-2 :
@@ -72,7 +81,10 @@ disjoint-from-sup-disjoint-from-sup-requires-2 :
       disjoint-reads.Asked,
       disjoint-reads.Learnt,
     ) (disjoint-from-sup-at t) disjoint-from-sup.Post
-disjoint-from-sup-disjoint-from-sup-requires-2 t c κs = ?
+disjoint-from-sup-disjoint-from-sup-requires-2 t c κs =
+    let p = c .before .before .before .before .before .before .before .pre in
+    let u = under _ (p .1 .1 .0) _ (p .1 .1 .1 .1) _ (sym (c .before .before .before .before .before .entry .ensures) ∙ c .before .before .before .e .given .1) in
+    (omega arith, (p .1 .0, (p .1 .1 .0, (p .1 .1 .1 .0, omega arith))))
 
 -- src/lib.rt:357:14
 disjoint-from-sup-disjoint-requires : (t : ℕ) → disjoint-from-sup-lts.Need-disjoint-requires (
@@ -83,7 +95,7 @@ disjoint-from-sup-disjoint-requires : (t : ℕ) → disjoint-from-sup-lts.Need-d
   disjoint-reads.Asked,
   disjoint-reads.Learnt,
 ) (disjoint-from-sup-at t) disjoint-from-sup.Post
-disjoint-from-sup-disjoint-requires t c κs = ?
+disjoint-from-sup-disjoint-requires t c κs = let p = c .before .before .before .pre in (p .1 .0, (p .1 .1 .0, (p .1 .1 .1 .1, p .1 .1 .1 .0)))
 
 -- src/lib.rt:341:1
 disjoint-from-sup-returns : (t : ℕ) → disjoint-from-sup-lts.Need-returns (
@@ -94,7 +106,10 @@ disjoint-from-sup-returns : (t : ℕ) → disjoint-from-sup-lts.Need-returns (
   disjoint-reads.Asked,
   disjoint-reads.Learnt,
 ) (disjoint-from-sup-at t) disjoint-from-sup.Post
-disjoint-from-sup-returns t c = ?
+disjoint-from-sup-returns t c =
+    let p = c .before .before .before .before .before .before .before .pre in
+    let h = sym (c .before .disjoint-from-sup .ensures) ∙ c .if1 .taken in
+    sym (disjoint-step _ (p .1 .1 .0) _ (p .1 .1 .1 .1) (sym (c .before .before .before .e .given .1) ∙ c .before .before .before .before .before .entry .ensures) _ ∙ rw h)
 
 -- src/lib.rt:341:1
 disjoint-from-sup-returns-2 : (t : ℕ) → disjoint-from-sup-lts.Need-returns-2 (
@@ -105,7 +120,10 @@ disjoint-from-sup-returns-2 : (t : ℕ) → disjoint-from-sup-lts.Need-returns-2
   disjoint-reads.Asked,
   disjoint-reads.Learnt,
 ) (disjoint-from-sup-at t) disjoint-from-sup.Post
-disjoint-from-sup-returns-2 t c = ?
+disjoint-from-sup-returns-2 t c =
+    let p = c .before .before .before .before .before .before .before .before .pre in
+    let h = sym (c .before .before .disjoint-from-sup .ensures) ∙ c .before .if1 .left in
+    c .disjoint-from-sup2 .ensures ∙ sym (disjoint-step _ (p .1 .1 .0) _ (p .1 .1 .1 .1) (sym (c .before .before .before .before .e .given .1) ∙ c .before .before .before .before .before .before .entry .ensures) _ ∙ rw h)
 
 -- src/lib.rt:341:1
 disjoint-from-sup-returns-3 : (t : ℕ) → disjoint-from-sup-lts.Need-returns-3 (
@@ -116,7 +134,9 @@ disjoint-from-sup-returns-3 : (t : ℕ) → disjoint-from-sup-lts.Need-returns-3
   disjoint-reads.Asked,
   disjoint-reads.Learnt,
 ) (disjoint-from-sup-at t) disjoint-from-sup.Post
-disjoint-from-sup-returns-3 t c = ?
+disjoint-from-sup-returns-3 t c =
+    let p = c .before .before .before .before .pre in
+    c .disjoint .ensures ∙ disjoint-none _ (p .1 .1 .0) _ (p .1 .1 .1 .1) (c .before .before .entry .ensures) _ (c .before .match .keys2)
 
 pub +disjoint-from-sup-spec : {M : Type 1} → statement M
 +disjoint-from-sup-spec = close μ-disjoint-from-sup λ t. disjoint-from-sup-lts.spec (

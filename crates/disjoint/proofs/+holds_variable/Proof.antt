@@ -1,3 +1,9 @@
+use mathlib.Core.Path.{_≡_, sym, ap, _∙_}
+use mathlib.Core.Bool.{true, false}
+use native.Mathlib.Omega.{arith}
+use borrow.Author.Needs.{needs}
+use Rattle.disjoint.proofs.Views.{under}
+use Rattle.disjoint.proofs.Searches.{holds-step, holds-none}
 use Prim.Native.Nat.{ℕ, _<_}
 use borrow.Fn.Kinds.{In}
 use borrow.Fn.PlainCycle.{Measures, is, falls, and}
@@ -9,7 +15,7 @@ use Rattle.disjoint.proofs.+holds_variable.{statement}
 use Rattle.disjoint.proofs.+holds_variable.Tie.{close}
 
 abbrev μ-holds-variable : Measures 1 holds-variable-kinds.ps ℕ
-μ-holds-variable κs a = ?
+μ-holds-variable κs a = a .1 .0
 
 abbrev holds-variable-at : ℕ → In 1 holds-variable-kinds.ps
 holds-variable-at t =
@@ -34,7 +40,7 @@ holds-variable-entry-requires : (t : ℕ) → holds-variable-lts.Need-entry-requ
   holds-variable-below t,
   holds-variable.Post,
 ) (holds-variable-at t) holds-variable.Post
-holds-variable-entry-requires t c κs = ?
+holds-variable-entry-requires t c κs = let p = c .before .pre in (p .1 .0, p .1 .1 .1)
 
 -- src/lib.rt:306:41
 holds-variable-enum-told : (t : ℕ) → holds-variable-lts.Need-enum-told (
@@ -43,7 +49,7 @@ holds-variable-enum-told : (t : ℕ) → holds-variable-lts.Need-enum-told (
   holds-variable-below t,
   holds-variable.Post,
 ) (holds-variable-at t) holds-variable.Post
-holds-variable-enum-told t c = ?
+holds-variable-enum-told t c = search needs
 
 -- src/lib.rt:307:22
 holds-variable-enum-known-e : (t : ℕ) → holds-variable-lts.Need-enum-known-e (
@@ -52,7 +58,7 @@ holds-variable-enum-known-e : (t : ℕ) → holds-variable-lts.Need-enum-known-e
   holds-variable-below t,
   holds-variable.Post,
 ) (holds-variable-at t) holds-variable.Post
-holds-variable-enum-known-e t c = ?
+holds-variable-enum-known-e t c = search needs
 
 -- src/lib.rt:308:16
 holds-variable-holds-variable-requires : (t : ℕ) → holds-variable-lts.Need-holds-variable-requires (
@@ -61,7 +67,10 @@ holds-variable-holds-variable-requires : (t : ℕ) → holds-variable-lts.Need-h
   holds-variable-below t,
   holds-variable.Post,
 ) (holds-variable-at t) holds-variable.Post
-holds-variable-holds-variable-requires t c κs = ?
+holds-variable-holds-variable-requires t c κs =
+    let p = c .before .before .before .before .before .pre in
+    let u = under _ (p .1 .1 .0) _ (p .1 .1 .1) _ (sym (c .before .before .before .entry .ensures) ∙ c .before .e .given .1) in
+    (omega arith, (p .1 .0, (p .1 .1 .0, omega arith)))
 
 -- src/lib.rt:311:17
 holds-variable-holds-variable-requires-2 :
@@ -71,7 +80,10 @@ holds-variable-holds-variable-requires-2 :
       holds-variable-below t,
       holds-variable.Post,
     ) (holds-variable-at t) holds-variable.Post
-holds-variable-holds-variable-requires-2 t c κs = ?
+holds-variable-holds-variable-requires-2 t c κs =
+    let p = c .before .before .before .before .before .before .before .pre in
+    let u = under _ (p .1 .1 .0) _ (p .1 .1 .1) _ (sym (c .before .before .before .before .before .entry .ensures) ∙ c .before .before .before .e .given .1) in
+    (omega arith, (p .1 .0, (p .1 .1 .0, omega arith)))
 
 -- src/lib.rt:314:24
 holds-variable-enum-known-e-2 : (t : ℕ) → holds-variable-lts.Need-enum-known-e-2 (
@@ -80,7 +92,7 @@ holds-variable-enum-known-e-2 : (t : ℕ) → holds-variable-lts.Need-enum-known
   holds-variable-below t,
   holds-variable.Post,
 ) (holds-variable-at t) holds-variable.Post
-holds-variable-enum-known-e-2 t c = ?
+holds-variable-enum-known-e-2 t c = search needs
 
 -- src/lib.rt:314:45
 holds-variable-holds-variable-requires-3 :
@@ -90,7 +102,10 @@ holds-variable-holds-variable-requires-3 :
       holds-variable-below t,
       holds-variable.Post,
     ) (holds-variable-at t) holds-variable.Post
-holds-variable-holds-variable-requires-3 t c κs = ?
+holds-variable-holds-variable-requires-3 t c κs =
+    let p = c .before .before .before .before .before .pre in
+    let u = under _ (p .1 .1 .0) _ (p .1 .1 .1) _ (sym (c .before .before .before .entry .ensures) ∙ c .before .e2 .given .1) in
+    (omega arith, (p .1 .0, (p .1 .1 .0, omega arith)))
 
 -- src/lib.rt:298:1
 holds-variable-returns : (t : ℕ) → holds-variable-lts.Need-returns (
@@ -99,7 +114,9 @@ holds-variable-returns : (t : ℕ) → holds-variable-lts.Need-returns (
   holds-variable-below t,
   holds-variable.Post,
 ) (holds-variable-at t) holds-variable.Post
-holds-variable-returns t c = ?
+holds-variable-returns t c =
+    let p = c .before .before .before .before .pre in
+    sym (holds-step _ (p .1 .1 .0) _ (p .1 .1 .1) (sym (c .enum-told .given .1) ∙ c .before .before .entry .ensures))
 
 -- src/lib.rt:298:1
 holds-variable-returns-2 : (t : ℕ) → holds-variable-lts.Need-returns-2 (
@@ -108,7 +125,10 @@ holds-variable-returns-2 : (t : ℕ) → holds-variable-lts.Need-returns-2 (
   holds-variable-below t,
   holds-variable.Post,
 ) (holds-variable-at t) holds-variable.Post
-holds-variable-returns-2 t c = ?
+holds-variable-returns-2 t c =
+    let p = c .before .before .before .before .before .before .before .pre in
+    let h = sym (c .before .holds-variable .ensures) ∙ c .if1 .taken in
+    sym (holds-step _ (p .1 .1 .0) _ (p .1 .1 .1) (sym (c .before .before .before .e .given .1) ∙ c .before .before .before .before .before .entry .ensures) ∙ rw h)
 
 -- src/lib.rt:298:1
 holds-variable-returns-3 : (t : ℕ) → holds-variable-lts.Need-returns-3 (
@@ -117,7 +137,10 @@ holds-variable-returns-3 : (t : ℕ) → holds-variable-lts.Need-returns-3 (
   holds-variable-below t,
   holds-variable.Post,
 ) (holds-variable-at t) holds-variable.Post
-holds-variable-returns-3 t c = ?
+holds-variable-returns-3 t c =
+    let p = c .before .before .before .before .before .before .before .before .pre in
+    let h = sym (c .before .before .holds-variable .ensures) ∙ c .before .if1 .left in
+    c .holds-variable2 .ensures ∙ sym (holds-step _ (p .1 .1 .0) _ (p .1 .1 .1) (sym (c .before .before .before .before .e .given .1) ∙ c .before .before .before .before .before .before .entry .ensures) ∙ rw h)
 
 -- src/lib.rt:298:1
 holds-variable-returns-4 : (t : ℕ) → holds-variable-lts.Need-returns-4 (
@@ -126,7 +149,9 @@ holds-variable-returns-4 : (t : ℕ) → holds-variable-lts.Need-returns-4 (
   holds-variable-below t,
   holds-variable.Post,
 ) (holds-variable-at t) holds-variable.Post
-holds-variable-returns-4 t c = ?
+holds-variable-returns-4 t c =
+    let p = c .before .before .before .before .before .before .pre in
+    c .holds-variable3 .ensures ∙ sym (holds-step _ (p .1 .1 .0) _ (p .1 .1 .1) (sym (c .before .before .e2 .given .1) ∙ c .before .before .before .before .entry .ensures))
 
 -- src/lib.rt:298:1
 holds-variable-returns-5 : (t : ℕ) → holds-variable-lts.Need-returns-5 (
@@ -135,7 +160,9 @@ holds-variable-returns-5 : (t : ℕ) → holds-variable-lts.Need-returns-5 (
   holds-variable-below t,
   holds-variable.Post,
 ) (holds-variable-at t) holds-variable.Post
-holds-variable-returns-5 t c = ?
+holds-variable-returns-5 t c =
+    let p = c .before .before .before .pre in
+    holds-none _ (p .1 .1 .0) _ (p .1 .1 .1) (c .before .entry .ensures) (c .match .keys4)
 
 pub +holds-variable-spec : {M : Type 1} → statement M
 +holds-variable-spec = close μ-holds-variable λ t. holds-variable-lts.spec (

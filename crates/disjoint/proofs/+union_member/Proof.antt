@@ -1,3 +1,9 @@
+use mathlib.Core.Path.{_≡_, sym, ap, _∙_}
+use mathlib.Core.Bool.{true, false}
+use native.Mathlib.Omega.{arith}
+use borrow.Author.Needs.{needs}
+use Rattle.disjoint.proofs.Views.{under}
+use Rattle.disjoint.proofs.Searches.{member-self, member-step, member-none}
 use Prim.Native.Nat.{ℕ, _<_}
 use borrow.Fn.Kinds.{In}
 use borrow.Fn.PlainCycle.{Measures, is, falls, and}
@@ -9,7 +15,7 @@ use Rattle.disjoint.proofs.+union_member.{statement}
 use Rattle.disjoint.proofs.+union_member.Tie.{close}
 
 abbrev μ-union-member : Measures 1 union-member-kinds.ps ℕ
-μ-union-member κs a = ?
+μ-union-member κs a = a .1 .1 .0
 
 abbrev union-member-at : ℕ → In 1 union-member-kinds.ps
 union-member-at t =
@@ -30,7 +36,7 @@ union-member-returns : (t : ℕ) → union-member-lts.Need-returns (
   union-member-below t,
   union-member.Post,
 ) (union-member-at t) union-member.Post
-union-member-returns t c = ?
+union-member-returns t c = member-self _ _ _ (c .if1 .taken)
 
 -- src/lib.rt:329:9
 union-member-entry-requires : (t : ℕ) → union-member-lts.Need-entry-requires (
@@ -39,7 +45,7 @@ union-member-entry-requires : (t : ℕ) → union-member-lts.Need-entry-requires
   union-member-below t,
   union-member.Post,
 ) (union-member-at t) union-member.Post
-union-member-entry-requires t c κs = ?
+union-member-entry-requires t c κs = let p = c .before .before .pre in (p .1 .0, p .1 .1 .1)
 
 -- src/lib.rt:331:22
 union-member-enum-known-e : (t : ℕ) → union-member-lts.Need-enum-known-e (
@@ -48,7 +54,7 @@ union-member-enum-known-e : (t : ℕ) → union-member-lts.Need-enum-known-e (
   union-member-below t,
   union-member.Post,
 ) (union-member-at t) union-member.Post
-union-member-enum-known-e t c = ?
+union-member-enum-known-e t c = search needs
 
 -- src/lib.rt:332:16
 union-member-union-member-requires : (t : ℕ) → union-member-lts.Need-union-member-requires (
@@ -57,7 +63,10 @@ union-member-union-member-requires : (t : ℕ) → union-member-lts.Need-union-m
   union-member-below t,
   union-member.Post,
 ) (union-member-at t) union-member.Post
-union-member-union-member-requires t c κs = ?
+union-member-union-member-requires t c κs =
+    let p = c .before .before .before .before .before .before .pre in
+    let u = under _ (p .1 .1 .0) _ (p .1 .1 .1) _ (sym (c .before .before .before .entry .ensures) ∙ c .before .e .given .1) in
+    (omega arith, (p .1 .0, (p .1 .1 .0, omega arith)))
 
 -- src/lib.rt:335:17
 union-member-union-member-requires-2 : (t : ℕ) → union-member-lts.Need-union-member-requires-2 (
@@ -66,7 +75,10 @@ union-member-union-member-requires-2 : (t : ℕ) → union-member-lts.Need-union
   union-member-below t,
   union-member.Post,
 ) (union-member-at t) union-member.Post
-union-member-union-member-requires-2 t c κs = ?
+union-member-union-member-requires-2 t c κs =
+    let p = c .before .before .before .before .before .before .before .before .pre in
+    let u = under _ (p .1 .1 .0) _ (p .1 .1 .1) _ (sym (c .before .before .before .before .before .entry .ensures) ∙ c .before .before .before .e .given .1) in
+    (omega arith, (p .1 .0, (p .1 .1 .0, omega arith)))
 
 -- src/lib.rt:338:24
 union-member-enum-known-e-2 : (t : ℕ) → union-member-lts.Need-enum-known-e-2 (
@@ -75,7 +87,7 @@ union-member-enum-known-e-2 : (t : ℕ) → union-member-lts.Need-enum-known-e-2
   union-member-below t,
   union-member.Post,
 ) (union-member-at t) union-member.Post
-union-member-enum-known-e-2 t c = ?
+union-member-enum-known-e-2 t c = search needs
 
 -- src/lib.rt:338:45
 union-member-union-member-requires-3 : (t : ℕ) → union-member-lts.Need-union-member-requires-3 (
@@ -84,7 +96,10 @@ union-member-union-member-requires-3 : (t : ℕ) → union-member-lts.Need-union
   union-member-below t,
   union-member.Post,
 ) (union-member-at t) union-member.Post
-union-member-union-member-requires-3 t c κs = ?
+union-member-union-member-requires-3 t c κs =
+    let p = c .before .before .before .before .before .before .pre in
+    let u = under _ (p .1 .1 .0) _ (p .1 .1 .1) _ (sym (c .before .before .before .entry .ensures) ∙ c .before .e2 .given .1) in
+    (omega arith, (p .1 .0, (p .1 .1 .0, omega arith)))
 
 -- src/lib.rt:320:1
 union-member-returns-2 : (t : ℕ) → union-member-lts.Need-returns-2 (
@@ -93,7 +108,10 @@ union-member-returns-2 : (t : ℕ) → union-member-lts.Need-returns-2 (
   union-member-below t,
   union-member.Post,
 ) (union-member-at t) union-member.Post
-union-member-returns-2 t c = ?
+union-member-returns-2 t c =
+    let p = c .before .before .before .before .before .before .before .before .pre in
+    let h = sym (c .before .union-member .ensures) ∙ c .if2 .taken in
+    sym (member-step _ (p .1 .1 .0) _ (p .1 .1 .1) (sym (c .before .before .before .e .given .1) ∙ c .before .before .before .before .before .entry .ensures) _ (c .before .before .before .before .before .before .if1 .left) ∙ rw h)
 
 -- src/lib.rt:320:1
 union-member-returns-3 : (t : ℕ) → union-member-lts.Need-returns-3 (
@@ -102,7 +120,10 @@ union-member-returns-3 : (t : ℕ) → union-member-lts.Need-returns-3 (
   union-member-below t,
   union-member.Post,
 ) (union-member-at t) union-member.Post
-union-member-returns-3 t c = ?
+union-member-returns-3 t c =
+    let p = c .before .before .before .before .before .before .before .before .before .pre in
+    let h = sym (c .before .before .union-member .ensures) ∙ c .before .if2 .left in
+    c .union-member2 .ensures ∙ sym (member-step _ (p .1 .1 .0) _ (p .1 .1 .1) (sym (c .before .before .before .before .e .given .1) ∙ c .before .before .before .before .before .before .entry .ensures) _ (c .before .before .before .before .before .before .before .if1 .left) ∙ rw h)
 
 -- src/lib.rt:320:1
 union-member-returns-4 : (t : ℕ) → union-member-lts.Need-returns-4 (
@@ -111,7 +132,9 @@ union-member-returns-4 : (t : ℕ) → union-member-lts.Need-returns-4 (
   union-member-below t,
   union-member.Post,
 ) (union-member-at t) union-member.Post
-union-member-returns-4 t c = ?
+union-member-returns-4 t c =
+    let p = c .before .before .before .before .before .before .before .pre in
+    c .union-member3 .ensures ∙ sym (member-step _ (p .1 .1 .0) _ (p .1 .1 .1) (sym (c .before .before .e2 .given .1) ∙ c .before .before .before .before .entry .ensures) _ (c .before .before .before .before .before .if1 .left))
 
 -- src/lib.rt:320:1
 union-member-returns-5 : (t : ℕ) → union-member-lts.Need-returns-5 (
@@ -120,7 +143,9 @@ union-member-returns-5 : (t : ℕ) → union-member-lts.Need-returns-5 (
   union-member-below t,
   union-member.Post,
 ) (union-member-at t) union-member.Post
-union-member-returns-5 t c = ?
+union-member-returns-5 t c =
+    let p = c .before .before .before .before .pre in
+    member-none _ (p .1 .1 .0) _ (p .1 .1 .1) (c .before .entry .ensures) _ (c .before .before .if1 .left) (c .match .keys3)
 
 pub +union-member-spec : {M : Type 1} → statement M
 +union-member-spec = close μ-union-member λ t. union-member-lts.spec (

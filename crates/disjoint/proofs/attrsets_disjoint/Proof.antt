@@ -1,3 +1,5 @@
+use mathlib.Core.Path.{_≡_, sym, ap, _∙_}
+use Rattle.disjoint.specs.Shapes.{attrsetsDisjointIn}
 use borrow.Author.Needs.{needs}
 use Rattle.disjoint.proofs.attrsets_disjoint.Statement.{statement}
 use Rattle.disjoint.proofs.attrsets_disjoint.Tie as tie
@@ -11,7 +13,8 @@ closed-lacks-requires c κs = search needs
 
 -- src/lib.rt:172:9
 returns : tie.Need-returns
-returns c = ?
+unfolding attrsetsDisjointIn
+returns c = rw (sym (c .before .closed-lacks .ensures) ∙ c .if1 .taken)
 
 -- src/lib.rt:174:5
 closed-lacks-requires-2 : tie.Need-closed-lacks-requires-2
@@ -19,7 +22,8 @@ closed-lacks-requires-2 c κs = search needs
 
 -- src/lib.rt:165:1
 returns-2 : tie.Need-returns-2
-returns-2 c = ?
+unfolding attrsetsDisjointIn
+returns-2 c = rw (sym (c .before .before .closed-lacks .ensures) ∙ c .before .if1 .left) (c .closed-lacks2 .ensures)
 
 pub attrsets-disjoint-spec : {M : Type 1} → statement M
 attrsets-disjoint-spec =

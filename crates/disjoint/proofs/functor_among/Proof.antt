@@ -1,3 +1,6 @@
+use mathlib.Core.Path.{_≡_, sym, ap, _∙_}
+use denote.Ref.{now}
+use Rattle.disjoint.proofs.Fields.{unset, set}
 use borrow.Author.Needs.{needs}
 use Rattle.disjoint.proofs.functor_among.Statement.{statement}
 use Rattle.disjoint.proofs.functor_among.Tie as tie
@@ -11,7 +14,7 @@ shared-slice-read-word c = search needs
 
 -- src/lib.rt:81:9
 returns : tie.Need-returns
-returns c = ?
+returns c = unset (now (c .before .before .before .args .image)) _ _ (c .if1 .taken)
 
 -- src/lib.rt:83:38
 sub-field-named : tie.Need-sub-field-named
@@ -23,7 +26,7 @@ field-named-requires c κs = search needs
 
 -- src/lib.rt:74:1
 returns-2 : tie.Need-returns-2
-returns-2 c = ?
+returns-2 c = c .field-named .ensures ∙ set (now (c .before .before .before .before .args .image)) _ _ (c .before .if1 .left)
 
 pub functor-among-spec : {M : Type 1} → statement M
 functor-among-spec =

@@ -1,3 +1,6 @@
+use mathlib.Core.Path.{_≡_, sym, ap, _∙_}
+use Rattle.disjoint.specs.Fields.{isFound}
+use Rattle.disjoint.specs.Shapes.{callable}
 use borrow.Author.Needs.{needs}
 use Rattle.disjoint.proofs.is_callable.Statement.{statement}
 use Rattle.disjoint.proofs.is_callable.Tie as tie
@@ -16,7 +19,8 @@ is-found-requires c κs = search needs
 
 -- src/lib.rt:111:1
 returns : tie.Need-returns
-returns c = ?
+unfolding callable
+returns c = c .is-found .ensures ∙ ap isFound (c .before .functor-among .ensures)
 
 pub is-callable-spec : {M : Type 1} → statement M
 is-callable-spec = tie.close (tie.spec functor-among-requires is-found-requires returns)

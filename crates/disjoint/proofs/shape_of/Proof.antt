@@ -1,3 +1,5 @@
+use mathlib.Core.Path.{_≡_, sym, ap, _∙_}
+use Rattle.disjoint.specs.Shapes.{shapeOf}
 use borrow.Author.Needs.{needs}
 use Rattle.disjoint.proofs.shape_of.Statement.{statement}
 use Rattle.disjoint.proofs.shape_of.Tie as tie
@@ -42,7 +44,7 @@ enum-told-7 c = search needs
 
 -- src/lib.rt:207:1
 returns : tie.Need-returns
-returns c = ?
+returns c = sym (ap shapeOf (c .before .e .given .1))
 
 -- src/lib.rt:207:1
 returns-2 : tie.Need-returns-2
@@ -54,7 +56,7 @@ returns-3 c = search needs
 
 -- src/lib.rt:207:1
 returns-4 : tie.Need-returns-4
-returns-4 c = ?
+returns-4 c = sym (ap shapeOf (c .before .e2 .given .1))
 
 -- src/lib.rt:207:1
 returns-5 : tie.Need-returns-5

@@ -1,3 +1,6 @@
+use mathlib.Core.Path.{_≡_, sym, ap, _∙_}
+use mathlib.Core.Bool.{not}
+use Rattle.disjoint.proofs.Shapes.{shapes-are, attrset-inside}
 use borrow.Author.Needs.{needs}
 use Rattle.disjoint.proofs.shapes_disjoint.Statement.{statement}
 use Rattle.disjoint.proofs.shapes_disjoint.Tie as tie
@@ -49,7 +52,9 @@ enum-known-b-2 c = search needs
 
 -- src/lib.rt:237:34
 attrsets-disjoint-requires : tie.Need-attrsets-disjoint-requires
-attrsets-disjoint-requires c κs = ?
+attrsets-disjoint-requires c κs =
+    let p = c .before .before .before .before .before .before .before .pre in
+    (p .0, (attrset-inside _ (c .before .before .before .before .a2 .given .1) (p .1 .0), attrset-inside _ (c .before .b2 .given .1) (p .1 .1)))
 
 -- src/lib.rt:238:28
 enum-told-6 : tie.Need-enum-told-6
@@ -61,7 +66,9 @@ enum-told-7 c = search needs
 
 -- src/lib.rt:239:31
 is-callable-requires : tie.Need-is-callable-requires
-is-callable-requires c κs = ?
+is-callable-requires c κs =
+    let p = c .before .before .before .before .before .before .pre in
+    (p .0, attrset-inside _ (c .before .before .before .a2 .given .1) (p .1 .0))
 
 -- src/lib.rt:240:30
 enum-told-8 : tie.Need-enum-told-8
@@ -105,7 +112,9 @@ enum-known-b-3 c = search needs
 
 -- src/lib.rt:251:35
 is-callable-requires-2 : tie.Need-is-callable-requires-2
-is-callable-requires-2 c κs = ?
+is-callable-requires-2 c κs =
+    let p = c .before .before .before .before .before .before .pre in
+    (p .0, attrset-inside _ (c .before .b3 .given .1) (p .1 .1))
 
 -- src/lib.rt:252:28
 enum-told-17 : tie.Need-enum-told-17
@@ -125,7 +134,7 @@ enum-told-20 c = search needs
 
 -- src/lib.rt:221:1
 returns : tie.Need-returns
-returns c = ?
+returns c = c .primitives-disjoint .ensures ∙ shapes-are _ (c .before .before .before .before .before .a .given .1) (c .before .before .b .given .1)
 
 -- src/lib.rt:221:1
 returns-2 : tie.Need-returns-2
@@ -149,7 +158,7 @@ returns-6 c = search needs
 
 -- src/lib.rt:221:1
 returns-7 : tie.Need-returns-7
-returns-7 c = ?
+returns-7 c = c .attrsets-disjoint .ensures ∙ shapes-are _ (c .before .before .before .before .before .a2 .given .1) (c .before .before .b2 .given .1)
 
 -- src/lib.rt:221:1
 returns-8 : tie.Need-returns-8
@@ -157,7 +166,7 @@ returns-8 c = search needs
 
 -- src/lib.rt:221:1
 returns-9 : tie.Need-returns-9
-returns-9 c = ?
+returns-9 c = ap not (c .is-callable .ensures) ∙ shapes-are _ (c .before .before .before .before .a2 .given .1) (c .before .enum-told7 .given .1)
 
 -- src/lib.rt:221:1
 returns-10 : tie.Need-returns-10
@@ -189,7 +198,7 @@ returns-16 c = search needs
 
 -- src/lib.rt:221:1
 returns-17 : tie.Need-returns-17
-returns-17 c = ?
+returns-17 c = ap not (c .is-callable2 .ensures) ∙ shapes-are _ (c .before .before .before .before .enum-told15 .given .1) (c .before .before .b3 .given .1)
 
 -- src/lib.rt:221:1
 returns-18 : tie.Need-returns-18
