@@ -1,0 +1,56 @@
+-- A field by its name, as the number of its record. Assumes nothing.
+use Prim.Native.Nat.{ℕ, zero, suc, _+_, _<_, _≤_}
+use mathlib.Core.List.{List, [], _∷_}
+use mathlib.Core.Option.{Option, none, some}
+use mathlib.Core.Bool.{Bool, true, false, cond}
+use lib.ListN.{length, take, drop}
+use lib.Dec.{eqb}
+use Rattle.model.specs.Format.{attrset}
+use Rattle.model.specs.Table.{Entry, Field, Store, is}
+use Rattle.model.specs.declared.Attrset.{Attrset}
+use Rattle.image.specs.Records.{fieldAt}
+use Rattle.disjoint.specs.declared.Found.{Found}
+use Rattle.disjoint.specs.declared.Found.the-variants.{At, Nothing}
+
+-- the records of an attrset's fields are there
+abbrev pub Inside : List Field → Attrset → Type 0
+Inside fs a = a .first + a .count ≤ length fs
+
+abbrev pub fieldsHeld : List Field → Attrset → List Field
+fieldsHeld fs a = take (a .count) (drop (a .first) fs)
+
+-- where the first field with a name stands, the records counted from i
+unfoldable pub foundFrom : ℕ → List Field → ℕ → Found
+foundFrom i [] name = Nothing
+foundFrom i (f ∷ fs) name = let rest = foundFrom (suc i) fs name in cond (eqb (f .name) name) (At i) rest
+
+-- the same, among the records first to first + count - 1
+unfoldable pub numberNamed : List Field → (first count : ℕ) → ℕ → Found
+numberNamed fs first count name = foundFrom first (take count (drop first fs)) name
+
+-- the record of `__functor`, by word 8: "number of `__functor` plus 1, or 0"
+unfoldable pub functorNumber : List Field → (first count : ℕ) → ℕ → Found
+functorNumber fs first count zero = Nothing
+functorNumber fs first count (suc name) = numberNamed fs first count name
+
+unfoldable pub functorRecord : Store → Entry → Found
+functorRecord s e = cond (is attrset e) (functorNumber (s .fields) (e .x) (e .y) (s .functor)) Nothing
+
+abbrev pub isFound : Found → Bool
+isFound (At i) = true
+isFound Nothing = false
+
+-- the field that was found
+abbrev pub fieldFound : List Field → Found → Option Field
+fieldFound fs (At i) = some (fieldAt fs i)
+fieldFound fs Nothing = none
+
+-- its record is there
+abbrev pub FoundInside : List Field → Found → Type 0
+FoundInside fs (At i) = i < length fs
+FoundInside fs Nothing = Unit {0}
+
+-- opens all that stands above
+unfoldable pub named-fields : Unit {0}
+unfolding foundFrom numberNamed functorNumber functorRecord
+named-fields = tt

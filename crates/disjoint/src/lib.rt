@@ -1,0 +1,359 @@
+// Tests on entries that the rules use: fields by name, disjointness, compatibility, and the three searches.
+// All read the image and write nothing.
+use model::Attrset;
+use model::Entry;
+ghost use mathlib.Core.Path.{_≡_};
+ghost use Prim.Native.Nat.{ℕ, _+_, _<_, _≤_};
+ghost use lib.ListN.{length};
+ghost use Rattle.model.specs.Table.{entryAt};
+ghost use Rattle.model.specs.Shapes.{hasFunctor, primitivesDisjoint, lacksField, underNumber, holdsVariable, unionMember, disjointFromSup};
+ghost use Rattle.model.specs.Shapes.{disjoint as sharesNone, compatible as couldBeUnder};
+ghost use Rattle.laws.specs.Good.{Good};
+ghost use Rattle.image.specs.Laid.{Laid};
+ghost use Rattle.image.specs.Shown.{storeOf, entriesOf, fieldsIn};
+ghost use Rattle.image.specs.Records.{fieldAt};
+ghost use Rattle.disjoint.specs.Fields.{Inside, fieldsHeld, numberNamed, functorNumber, functorRecord, isFound};
+ghost use Rattle.disjoint.specs.Shapes.{shapeOf, ShapeInside, lacksSome, closedLacksIn, attrsetsDisjointIn, callable, shapesDisjoint};
+
+// Where the header has the number of `__functor` plus 1, or 0.
+const FUNCTOR: usize = 8;
+
+const LAMBDA: u32 = 3;
+
+const NAMED: u32 = 5;
+
+const INT: u32 = 2;
+
+const FLOAT: u32 = 3;
+
+const NUMBER: u32 = 7;
+
+// A field record by its number, if there is one.
+pub enum Found {
+    At(u32),
+    Nothing,
+}
+
+// A type's top-level constructor, as far as disjointness asks.
+pub enum Shape {
+    Primitive(u32),
+    AttrSet(Attrset),
+    List,
+    Lambda,
+    // a variable, named, neg, inter or union: its shape tells nothing
+    Opaque,
+}
+
+fn is_found(f: Found) -> bool
+    ensures { λ r. ⌜ r ≡ isFound f ⌝ }
+{
+    match f {
+        Found::At(_) => true,
+        Found::Nothing => false,
+    }
+}
+
+// The record of the field with that name, among the records first to first + count - 1.
+pub fn field_named(image: &[u32], first: u32, count: u32, name: u32) -> Found
+    requires { ⌜ Laid (now image) ⌝ }
+    requires { ⌜ first + count ≤ length (fieldsIn (now image)) ⌝ }
+    ensures { λ r. ⌜ r ≡ numberNamed (fieldsIn (now (image .entry))) first count name ⌝ }
+{
+    let end = first + count;
+    let mut i = first;
+    while i < end {
+        if image::field_word(image, i, 0) == name {
+            return Found::At(i);
+        }
+        i += 1;
+    }
+    Found::Nothing
+}
+
+// The record of the field `__functor` among these.
+fn functor_among(image: &[u32], first: u32, count: u32) -> Found
+    requires { ⌜ Laid (now image) ⌝ }
+    requires { ⌜ first + count ≤ length (fieldsIn (now image)) ⌝ }
+    ensures { λ r. ⌜ r ≡ functorNumber (fieldsIn (now (image .entry))) first count (storeOf (now (image .entry)) .functor) ⌝ }
+{
+    let word = image[FUNCTOR];
+    if word == 0 {
+        return Found::Nothing;
+    }
+    field_named(image, first, count, word - 1)
+}
+
+// The record of the field `__functor` of entry n, if it is an attrset that has one.
+pub fn functor_of(image: &[u32], n: u32) -> Found
+    requires { ⌜ Laid (now image) ⌝ }
+    requires { ⌜ Good (storeOf (now image)) ⌝ }
+    requires { ⌜ n < length (entriesOf (now image)) ⌝ }
+    ensures { λ r. ⌜ r ≡ functorRecord (storeOf (now (image .entry))) (entryAt (entriesOf (now (image .entry))) n) ⌝ }
+{
+    let e = image::entry(image, n);
+    let Entry::AttrSet(a) = e else {
+        return Found::Nothing;
+    };
+    functor_among(image, a.first, a.count)
+}
+
+// Whether entry n is an attrset with a field `__functor`.
+pub fn has_functor(image: &[u32], n: u32) -> bool
+    requires { ⌜ Laid (now image) ⌝ }
+    requires { ⌜ Good (storeOf (now image)) ⌝ }
+    requires { ⌜ n < length (entriesOf (now image)) ⌝ }
+    ensures { λ r. ⌜ r ≡ hasFunctor (storeOf (now (image .entry))) (entryAt (entriesOf (now (image .entry))) n) ⌝ }
+{
+    is_found(functor_of(image, n))
+}
+
+// Whether the attrset has a field `__functor`, which makes it callable.
+fn is_callable(image: &[u32], a: Attrset) -> bool
+    requires { ⌜ Laid (now image) ⌝ }
+    requires { ⌜ Inside (fieldsIn (now image)) a ⌝ }
+    ensures { λ r. ⌜ r ≡ callable (storeOf (now (image .entry))) a ⌝ }
+{
+    is_found(functor_among(image, a.first, a.count))
+}
+
+// Field record j is not optional, and no field of a has its name.
+fn lacks_field(image: &[u32], a: Attrset, j: u32) -> bool
+    requires { ⌜ Laid (now image) ⌝ }
+    requires { ⌜ Inside (fieldsIn (now image)) a ⌝ }
+    requires { ⌜ j < length (fieldsIn (now image)) ⌝ }
+    ensures { λ r. ⌜ r ≡ lacksField (fieldsHeld (fieldsIn (now (image .entry))) a) (fieldAt (fieldsIn (now (image .entry))) j) ⌝ }
+{
+    if image::field_word(image, j, 2) != 0 {
+        return false;
+    }
+    let name = image::field_word(image, j, 0);
+    !is_found(field_named(image, a.first, a.count, name))
+}
+
+// Some field of b is not optional and no field of a.
+fn lacks_some(image: &[u32], a: Attrset, b: Attrset) -> bool
+    requires { ⌜ Laid (now image) ⌝ }
+    requires { ⌜ Inside (fieldsIn (now image)) a ⌝ }
+    requires { ⌜ Inside (fieldsIn (now image)) b ⌝ }
+    ensures { λ r. ⌜ r ≡ lacksSome (fieldsIn (now (image .entry))) a b ⌝ }
+{
+    let mut j = b.first;
+    let end = j + b.count;
+    while j < end {
+        if lacks_field(image, a, j) {
+            return true;
+        }
+        j += 1;
+    }
+    false
+}
+
+// a is closed, and lacks a field that b requires.
+fn closed_lacks(image: &[u32], a: Attrset, b: Attrset) -> bool
+    requires { ⌜ Laid (now image) ⌝ }
+    requires { ⌜ Inside (fieldsIn (now image)) a ⌝ }
+    requires { ⌜ Inside (fieldsIn (now image)) b ⌝ }
+    ensures { λ r. ⌜ r ≡ closedLacksIn (fieldsIn (now (image .entry))) a b ⌝ }
+{
+    if a.is_open {
+        return false;
+    }
+    lacks_some(image, a, b)
+}
+
+// One is closed, and lacks a field that the other requires.
+fn attrsets_disjoint(image: &[u32], a: Attrset, b: Attrset) -> bool
+    requires { ⌜ Laid (now image) ⌝ }
+    requires { ⌜ Inside (fieldsIn (now image)) a ⌝ }
+    requires { ⌜ Inside (fieldsIn (now image)) b ⌝ }
+    ensures { λ r. ⌜ r ≡ attrsetsDisjointIn (fieldsIn (now (image .entry))) a b ⌝ }
+{
+    if closed_lacks(image, a, b) {
+        return true;
+    }
+    closed_lacks(image, b, a)
+}
+
+// Int or Float under Number.
+fn is_under_number(p: u32, q: u32) -> bool
+    ensures { λ r. ⌜ r ≡ underNumber p q ⌝ }
+{
+    if q == NUMBER {
+        if p == INT {
+            return true;
+        }
+        return p == FLOAT;
+    }
+    false
+}
+
+// Two primitives, neither under the other.
+fn primitives_disjoint(p: u32, q: u32) -> bool
+    ensures { λ r. ⌜ r ≡ primitivesDisjoint p q ⌝ }
+{
+    if p == q {
+        return false;
+    }
+    if is_under_number(p, q) {
+        return false;
+    }
+    !is_under_number(q, p)
+}
+
+// The shape of an entry that was read out.
+fn shape_of(e: Entry) -> Shape
+    ensures { λ r. ⌜ r ≡ shapeOf e ⌝ }
+{
+    match e {
+        Entry::Primitive(p) => Shape::Primitive(p),
+        Entry::List(_) => Shape::List,
+        Entry::Lambda { param: _, body: _ } => Shape::Lambda,
+        Entry::AttrSet(a) => Shape::AttrSet(a),
+        Entry::Variable { level: _ } => Shape::Opaque,
+        Entry::Named { inner: _, label: _ } => Shape::Opaque,
+        Entry::Neg(_) => Shape::Opaque,
+        Entry::Inter(_, _) => Shape::Opaque,
+        Entry::Union(_, _) => Shape::Opaque,
+    }
+}
+
+// Whether two shapes share no value: different constructors do not, but a callable attrset may be a lambda.
+fn shapes_disjoint(image: &[u32], a: Shape, b: Shape) -> bool
+    requires { ⌜ Laid (now image) ⌝ }
+    requires { ⌜ ShapeInside (fieldsIn (now image)) a ⌝ }
+    requires { ⌜ ShapeInside (fieldsIn (now image)) b ⌝ }
+    ensures { λ r. ⌜ r ≡ shapesDisjoint (storeOf (now (image .entry))) a b ⌝ }
+{
+    match a {
+        Shape::Primitive(p) => match b {
+            Shape::Primitive(q) => primitives_disjoint(p, q),
+            Shape::AttrSet(_) => true,
+            Shape::List => true,
+            Shape::Lambda => true,
+            Shape::Opaque => false,
+        },
+        Shape::AttrSet(x) => match b {
+            Shape::Primitive(_) => true,
+            Shape::AttrSet(y) => attrsets_disjoint(image, x, y),
+            Shape::List => true,
+            Shape::Lambda => !is_callable(image, x),
+            Shape::Opaque => false,
+        },
+        Shape::List => match b {
+            Shape::Primitive(_) => true,
+            Shape::AttrSet(_) => true,
+            Shape::List => false,
+            Shape::Lambda => true,
+            Shape::Opaque => false,
+        },
+        Shape::Lambda => match b {
+            Shape::Primitive(_) => true,
+            Shape::AttrSet(y) => !is_callable(image, y),
+            Shape::List => true,
+            Shape::Lambda => false,
+            Shape::Opaque => false,
+        },
+        Shape::Opaque => false,
+    }
+}
+
+// Whether entries a and b share no value.
+pub fn disjoint(image: &[u32], a: u32, b: u32) -> bool
+    requires { ⌜ Laid (now image) ⌝ }
+    requires { ⌜ Good (storeOf (now image)) ⌝ }
+    requires { ⌜ a < length (entriesOf (now image)) ⌝ }
+    requires { ⌜ b < length (entriesOf (now image)) ⌝ }
+    ensures { λ r. ⌜ r ≡ sharesNone (storeOf (now (image .entry))) (entryAt (entriesOf (now (image .entry))) a) (entryAt (entriesOf (now (image .entry))) b) ⌝ }
+{
+    let sub = shape_of(image::entry(image, a));
+    let sup = shape_of(image::entry(image, b));
+    shapes_disjoint(image, sub, sup)
+}
+
+// Whether entry a could be under entry b by its constructor: Int and Number have the same one.
+pub fn compatible(image: &[u32], a: u32, b: u32) -> bool
+    requires { ⌜ Laid (now image) ⌝ }
+    requires { ⌜ Good (storeOf (now image)) ⌝ }
+    requires { ⌜ a < length (entriesOf (now image)) ⌝ }
+    requires { ⌜ b < length (entriesOf (now image)) ⌝ }
+    ensures { λ r. ⌜ r ≡ couldBeUnder (storeOf (now (image .entry))) (entryAt (entriesOf (now (image .entry))) a) (entryAt (entriesOf (now (image .entry))) b) ⌝ }
+{
+    let target = image::entry_word(image, b, 0);
+    if image::entry_word(image, a, 0) == target {
+        return true;
+    }
+    if target == NAMED {
+        return true;
+    }
+    if target == LAMBDA {
+        return has_functor(image, a);
+    }
+    false
+}
+
+// Whether entry n is a variable, or leads to one through inter and named.
+pub fn holds_variable(image: &[u32], n: u32) -> bool
+    requires { ⌜ Laid (now image) ⌝ }
+    requires { ⌜ Good (storeOf (now image)) ⌝ }
+    requires { ⌜ n < length (entriesOf (now image)) ⌝ }
+    ensures { λ r. ⌜ r ≡ holdsVariable (entriesOf (now (image .entry))) n ⌝ }
+{
+    let e = image::entry(image, n);
+    match e {
+        Entry::Variable { level: _ } => true,
+        Entry::Inter(x, y) => {
+            if holds_variable(image, x) {
+                true
+            } else {
+                holds_variable(image, y)
+            }
+        }
+        Entry::Named { inner, label: _ } => holds_variable(image, inner),
+        _ => false,
+    }
+}
+
+// Whether m is entry n itself, or a member of it through unions and named.
+pub fn union_member(image: &[u32], m: u32, n: u32) -> bool
+    requires { ⌜ Laid (now image) ⌝ }
+    requires { ⌜ Good (storeOf (now image)) ⌝ }
+    requires { ⌜ n < length (entriesOf (now image)) ⌝ }
+    ensures { λ r. ⌜ r ≡ unionMember (entriesOf (now (image .entry))) m n ⌝ }
+{
+    if n == m {
+        return true;
+    }
+    let e = image::entry(image, n);
+    match e {
+        Entry::Union(x, y) => {
+            if union_member(image, m, x) {
+                true
+            } else {
+                union_member(image, m, y)
+            }
+        }
+        Entry::Named { inner, label: _ } => union_member(image, m, inner),
+        _ => false,
+    }
+}
+
+// Whether entry n, or a member of it through inter, is disjoint from entry sup.
+pub fn disjoint_from_sup(image: &[u32], sup: u32, n: u32) -> bool
+    requires { ⌜ Laid (now image) ⌝ }
+    requires { ⌜ Good (storeOf (now image)) ⌝ }
+    requires { ⌜ sup < length (entriesOf (now image)) ⌝ }
+    requires { ⌜ n < length (entriesOf (now image)) ⌝ }
+    ensures { λ r. ⌜ r ≡ disjointFromSup (storeOf (now (image .entry))) (entryAt (entriesOf (now (image .entry))) sup) n ⌝ }
+{
+    let e = image::entry(image, n);
+    match e {
+        Entry::Inter(x, y) => {
+            if disjoint_from_sup(image, sup, x) {
+                true
+            } else {
+                disjoint_from_sup(image, sup, y)
+            }
+        }
+        _ => disjoint(image, n, sup),
+    }
+}
