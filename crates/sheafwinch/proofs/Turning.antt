@@ -87,3 +87,15 @@ module _ (es : List Entry) where
 
   pub second-no-entry : (a b : ℕ) → length es ≤ b → (isEntry es a && isEntry es b) ≡ false
   second-no-entry a b h = rw (no-entry b h) (and-false (isEntry es a))
+
+-- a read: only what it says
+abbrev pub Says : Told → Reply → Type 0
+Says a r = a ≡ r .says
+
+pub good-says : (c : Call) (w : List ℕ) → T (wellFormed w) → {a : Told} → Says a (replyOf w (turnOf c w (table w))) → Says a (perform c w)
+unfolding perform onTable
+good-says c w h k = rw (true-of (wellFormed w) h) k
+
+pub numbered-says : (w : List ℕ) (turn : Turn) (ok : Bool) → ok ≡ true → {a : Told} → Says a (replyOf w turn) → Says a (replyOf w (whenNumbered ok turn))
+unfolding whenNumbered
+numbered-says w turn ok e k = rw e k
