@@ -299,7 +299,7 @@ module _ (fs : List Field) (names : ℕ) (again : List Entry → ℕ → Making)
         let so : spreadOf es neg n 0 ≡ 1 + spreadAt es n = spread-one es neg n 0 refl in
         deep-cached es es fs names n neg n 0 g low (kept-refl es) h (omega (arith, spread-low es fs names g n h)) (λ i ge lt. absurd (omega arith))
 
-grown-within : (fs : List Field) (names rounds : ℕ) (es : List Entry) (n : ℕ) → EntriesGood es fs names → n < rounds → n < length es → Grown es fs names n (negWithin rounds es n)
+pub grown-within : (fs : List Field) (names rounds : ℕ) (es : List Entry) (n : ℕ) → EntriesGood es fs names → n < rounds → n < length es → Grown es fs names n (negWithin rounds es n)
 unfolding negWithin
 grown-within fs names zero es n g r h = absurd (omega arith)
 grown-within fs names (suc rounds) es n g r h =

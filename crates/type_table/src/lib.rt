@@ -1,0 +1,1 @@
+// Making entries in an image.
