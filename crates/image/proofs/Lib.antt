@@ -1,3 +1,5 @@
 pub mod Reading
 pub mod ReadOut
 pub mod Laying
+pub mod Placing
+pub mod Places

@@ -1,4 +1,4 @@
--- Records by their number (past the end, one with every word 0), and an attrset from its words. Assumes nothing.
+-- Records by their number (past the end, one with every word 0), an entry as it is put, and an attrset from its words. Assumes nothing.
 use Prim.Native.Nat.{ℕ, _/_, _%_}
 use mathlib.Core.List.{List}
 use mathlib.Core.Bool.{Bool, cond}
@@ -8,7 +8,11 @@ use Rattle.model.specs.Format.{openFlag, dynamicFlag}
 use Rattle.model.specs.declared.Attrset.{Attrset}
 use Rattle.model.specs.declared.Dynamic.{Dynamic}
 use Rattle.model.specs.declared.Dynamic.the-variants.{Absent, Present}
-use Rattle.model.specs.Table.{Field, Bound, Pair, _⊑_}
+use Rattle.model.specs.Table.{Entry, Field, Bound, Pair, _⊑_}
+
+-- an entry as it is put, with no negation cached
+abbrev pub entryMade : ℕ → ℕ → ℕ → ℕ → ℕ → ℕ → Entry
+entryMade kind x y z flags spread = record { kind = kind; x = x; y = y; z = z; flags = flags; spread = spread; negation = 0 }
 
 abbrev pub fieldAt : List Field → ℕ → Field
 fieldAt fs i = getD fs i (record { name = 0; entry = 0; optional = 0 })

@@ -4,35 +4,90 @@ use model::Attrset;
 use model::Dynamic;
 use model::Entry;
 ghost use mathlib.Core.Path.{_≡_};
-ghost use Prim.Native.Nat.{ℕ, _+_, _*_, _≤_, _<_};
-ghost use lib.ListN.{length, getD};
+ghost use mathlib.Core.List.{[], _∷_, _++_};
+ghost use Prim.Native.Nat.{ℕ, _+_, _-_, _*_, _≤_, _<_};
+ghost use lib.ListN.{length, getD, take};
+ghost use lib.Seq.{sets};
 ghost use Rattle.model.specs.Format.{entriesRegion, fieldsRegion, boundsRegion, visitedRegion, pendingRegion, equalsRegion};
 ghost use Rattle.model.specs.Table.{entryAt};
 ghost use Rattle.model.specs.Image.{word, count, entryWords, fieldWords, boundWords, pairWords};
-ghost use Rattle.model.specs.Calls.{readOut};
+ghost use Rattle.model.specs.Making.{changed, withNegation, withMark};
+ghost use Rattle.model.specs.Calls.{readOut, withX};
 ghost use Rattle.image.specs.Laid.{Laid};
-ghost use Rattle.image.specs.Shown.{entriesOf, fieldsIn, boundsAll, visitedIn, pendingIn, equalsIn};
-ghost use Rattle.image.specs.Records.{fieldAt, boundAt, pairAt, saysOpen, saysDynamic, dynamicRead, attrsetRead};
+ghost use Rattle.image.specs.Shown.{Shows, Shown, storeOf, entriesOf, fieldsIn, boundsAll, visitedIn, pendingIn, equalsIn};
+ghost use Rattle.image.specs.Shown.{entriesTo};
+ghost use Rattle.image.specs.Records.{entryMade, fieldAt, boundAt, pairAt, saysOpen, saysDynamic, dynamicRead, attrsetRead};
 
-// The header's words: where each region's offset, capacity and count stand.
-pub const ENTRIES_COUNT: usize = 11;
+// The header's words: where each stands, as in the model's Format.
+pub const FORMAT_AT: usize = 0;
 
-pub const FIELDS_OFFSET: usize = 12;
+pub const STATE_AT: usize = 1;
 
-pub const BOUNDS_OFFSET: usize = 15;
+pub const BREAK_KIND_AT: usize = 2;
 
-pub const VISITED_OFFSET: usize = 18;
+pub const BREAK_SUB_AT: usize = 3;
 
-pub const PENDING_OFFSET: usize = 21;
+pub const BREAK_SUP_AT: usize = 4;
 
-pub const EQUALS_OFFSET: usize = 24;
+pub const BREAK_NAME_AT: usize = 5;
+
+pub const LEVEL_AT: usize = 6;
+
+pub const NAMES_AT: usize = 7;
+
+pub const FUNCTOR_AT: usize = 8;
+
+pub const ENTRIES_OFFSET_AT: usize = 9;
+
+pub const ENTRIES_CAPACITY_AT: usize = 10;
+
+pub const ENTRIES_COUNT_AT: usize = 11;
+
+pub const FIELDS_OFFSET_AT: usize = 12;
+
+pub const FIELDS_CAPACITY_AT: usize = 13;
+
+pub const FIELDS_COUNT_AT: usize = 14;
+
+pub const BOUNDS_OFFSET_AT: usize = 15;
+
+pub const BOUNDS_CAPACITY_AT: usize = 16;
+
+pub const BOUNDS_COUNT_AT: usize = 17;
+
+pub const VISITED_OFFSET_AT: usize = 18;
+
+pub const VISITED_CAPACITY_AT: usize = 19;
+
+pub const VISITED_COUNT_AT: usize = 20;
+
+pub const PENDING_OFFSET_AT: usize = 21;
+
+pub const PENDING_CAPACITY_AT: usize = 22;
+
+pub const PENDING_COUNT_AT: usize = 23;
+
+pub const EQUALS_OFFSET_AT: usize = 24;
+
+pub const EQUALS_CAPACITY_AT: usize = 25;
+
+pub const EQUALS_COUNT_AT: usize = 26;
 
 pub const HEADER_WORDS: usize = 27;
 
-// An attrset's flags.
+// An entry's flags.
+pub const MARK_FLAG: u32 = 1;
+
 pub const OPEN_FLAG: u32 = 2;
 
 pub const DYNAMIC_FLAG: u32 = 4;
+
+// Words of an entry that are written alone.
+pub const X_WORD: usize = 1;
+
+pub const FLAGS_WORD: usize = 4;
+
+pub const NEGATION_WORD: usize = 6;
 
 // Words per record.
 pub const ENTRY_WIDTH: usize = 7;
@@ -54,6 +109,142 @@ fn wide(x: u32) -> usize
     x as usize
 }
 
+// How many records each region has.
+pub fn entries_count(image: &[u32]) -> u32
+    requires { ⌜ Laid (now image) ⌝ }
+    ensures { λ r. ⌜ r ≡ length (entriesOf (now (image .entry))) ⌝ }
+{
+    image[ENTRIES_COUNT_AT]
+}
+
+pub fn fields_count(image: &[u32]) -> u32
+    requires { ⌜ Laid (now image) ⌝ }
+    ensures { λ r. ⌜ r ≡ length (fieldsIn (now (image .entry))) ⌝ }
+{
+    image[FIELDS_COUNT_AT]
+}
+
+pub fn bounds_count(image: &[u32]) -> u32
+    requires { ⌜ Laid (now image) ⌝ }
+    ensures { λ r. ⌜ r ≡ length (boundsAll (now (image .entry))) ⌝ }
+{
+    image[BOUNDS_COUNT_AT]
+}
+
+pub fn visited_count(image: &[u32]) -> u32
+    requires { ⌜ Laid (now image) ⌝ }
+    ensures { λ r. ⌜ r ≡ length (visitedIn (now (image .entry))) ⌝ }
+{
+    image[VISITED_COUNT_AT]
+}
+
+pub fn pending_count(image: &[u32]) -> u32
+    requires { ⌜ Laid (now image) ⌝ }
+    ensures { λ r. ⌜ r ≡ length (pendingIn (now (image .entry))) ⌝ }
+{
+    image[PENDING_COUNT_AT]
+}
+
+pub fn equals_count(image: &[u32]) -> u32
+    requires { ⌜ Laid (now image) ⌝ }
+    ensures { λ r. ⌜ r ≡ length (equalsIn (now (image .entry))) ⌝ }
+{
+    image[EQUALS_COUNT_AT]
+}
+
+// How many each takes.
+pub fn entries_capacity(image: &[u32]) -> u32
+    requires { ⌜ Laid (now image) ⌝ }
+    ensures { λ r. ⌜ r ≡ storeOf (now (image .entry)) .capacities .entries ⌝ }
+{
+    image[ENTRIES_CAPACITY_AT]
+}
+
+pub fn fields_capacity(image: &[u32]) -> u32
+    requires { ⌜ Laid (now image) ⌝ }
+    ensures { λ r. ⌜ r ≡ storeOf (now (image .entry)) .capacities .fields ⌝ }
+{
+    image[FIELDS_CAPACITY_AT]
+}
+
+pub fn bounds_capacity(image: &[u32]) -> u32
+    requires { ⌜ Laid (now image) ⌝ }
+    ensures { λ r. ⌜ r ≡ storeOf (now (image .entry)) .capacities .bounds ⌝ }
+{
+    image[BOUNDS_CAPACITY_AT]
+}
+
+pub fn visited_capacity(image: &[u32]) -> u32
+    requires { ⌜ Laid (now image) ⌝ }
+    ensures { λ r. ⌜ r ≡ storeOf (now (image .entry)) .capacities .visited ⌝ }
+{
+    image[VISITED_CAPACITY_AT]
+}
+
+pub fn pending_capacity(image: &[u32]) -> u32
+    requires { ⌜ Laid (now image) ⌝ }
+    ensures { λ r. ⌜ r ≡ storeOf (now (image .entry)) .capacities .pending ⌝ }
+{
+    image[PENDING_CAPACITY_AT]
+}
+
+pub fn equals_capacity(image: &[u32]) -> u32
+    requires { ⌜ Laid (now image) ⌝ }
+    ensures { λ r. ⌜ r ≡ storeOf (now (image .entry)) .capacities .equals ⌝ }
+{
+    image[EQUALS_CAPACITY_AT]
+}
+
+// The rest of the header: how many names there are, the functor word, the current level and the break.
+pub fn name_count(image: &[u32]) -> u32
+    requires { ⌜ Laid (now image) ⌝ }
+    ensures { λ r. ⌜ r ≡ storeOf (now (image .entry)) .names ⌝ }
+{
+    image[NAMES_AT]
+}
+
+pub fn functor(image: &[u32]) -> u32
+    requires { ⌜ Laid (now image) ⌝ }
+    ensures { λ r. ⌜ r ≡ storeOf (now (image .entry)) .functor ⌝ }
+{
+    image[FUNCTOR_AT]
+}
+
+pub fn level(image: &[u32]) -> u32
+    requires { ⌜ Laid (now image) ⌝ }
+    ensures { λ r. ⌜ r ≡ storeOf (now (image .entry)) .level ⌝ }
+{
+    image[LEVEL_AT]
+}
+
+pub fn break_kind(image: &[u32]) -> u32
+    requires { ⌜ Laid (now image) ⌝ }
+    ensures { λ r. ⌜ r ≡ storeOf (now (image .entry)) .broken .kind ⌝ }
+{
+    image[BREAK_KIND_AT]
+}
+
+pub fn break_sub(image: &[u32]) -> u32
+    requires { ⌜ Laid (now image) ⌝ }
+    ensures { λ r. ⌜ r ≡ storeOf (now (image .entry)) .broken .sub ⌝ }
+{
+    image[BREAK_SUB_AT]
+}
+
+pub fn break_sup(image: &[u32]) -> u32
+    requires { ⌜ Laid (now image) ⌝ }
+    ensures { λ r. ⌜ r ≡ storeOf (now (image .entry)) .broken .sup ⌝ }
+{
+    image[BREAK_SUP_AT]
+}
+
+pub fn break_name(image: &[u32]) -> u32
+    requires { ⌜ Laid (now image) ⌝ }
+    ensures { λ r. ⌜ r ≡ storeOf (now (image .entry)) .broken .name ⌝ }
+{
+    image[BREAK_NAME_AT]
+}
+
 // Word j of entry i.
 pub fn entry_word(image: &[u32], i: u32, j: usize) -> u32
     requires { ⌜ Laid (now image) ⌝ }
@@ -71,7 +262,7 @@ pub fn field_word(image: &[u32], i: u32, j: usize) -> u32
     requires { ⌜ j < 3 ⌝ }
     ensures { λ r. ⌜ r ≡ word (fieldWords (fieldAt (fieldsIn (now (image .entry))) i)) j ⌝ }
 {
-    image[wide(image[FIELDS_OFFSET]) + FIELD_WIDTH * wide(i) + j]
+    image[wide(image[FIELDS_OFFSET_AT]) + FIELD_WIDTH * wide(i) + j]
 }
 
 // Word j of bound record i.
@@ -81,7 +272,7 @@ pub fn bound_word(image: &[u32], i: u32, j: usize) -> u32
     requires { ⌜ j < 3 ⌝ }
     ensures { λ r. ⌜ r ≡ word (boundWords (boundAt (boundsAll (now (image .entry))) i)) j ⌝ }
 {
-    image[wide(image[BOUNDS_OFFSET]) + BOUND_WIDTH * wide(i) + j]
+    image[wide(image[BOUNDS_OFFSET_AT]) + BOUND_WIDTH * wide(i) + j]
 }
 
 // Word j of visited pair i.
@@ -91,7 +282,7 @@ pub fn visited_word(image: &[u32], i: u32, j: usize) -> u32
     requires { ⌜ j < 2 ⌝ }
     ensures { λ r. ⌜ r ≡ word (pairWords (pairAt (visitedIn (now (image .entry))) i)) j ⌝ }
 {
-    image[wide(image[VISITED_OFFSET]) + VISITED_WIDTH * wide(i) + j]
+    image[wide(image[VISITED_OFFSET_AT]) + VISITED_WIDTH * wide(i) + j]
 }
 
 // Word j of pending pair i.
@@ -101,7 +292,7 @@ pub fn pending_word(image: &[u32], i: u32, j: usize) -> u32
     requires { ⌜ j < 2 ⌝ }
     ensures { λ r. ⌜ r ≡ word (pairWords (pairAt (pendingIn (now (image .entry))) i)) j ⌝ }
 {
-    image[wide(image[PENDING_OFFSET]) + PENDING_WIDTH * wide(i) + j]
+    image[wide(image[PENDING_OFFSET_AT]) + PENDING_WIDTH * wide(i) + j]
 }
 
 // Word j of equal pair i.
@@ -111,7 +302,7 @@ pub fn equal_word(image: &[u32], i: u32, j: usize) -> u32
     requires { ⌜ j < 2 ⌝ }
     ensures { λ r. ⌜ r ≡ word (pairWords (pairAt (equalsIn (now (image .entry))) i)) j ⌝ }
 {
-    image[wide(image[EQUALS_OFFSET]) + EQUALS_WIDTH * wide(i) + j]
+    image[wide(image[EQUALS_OFFSET_AT]) + EQUALS_WIDTH * wide(i) + j]
 }
 
 // Whether these flags say open, and whether they say that there is a dynamic type.
@@ -174,4 +365,95 @@ pub fn entry(image: &[u32], i: u32) -> Entry
         7 => Entry::Inter(x, y),
         _ => Entry::Union(x, y),
     }
+}
+
+// Writes the seven words of an entry from a word on.
+fn write_entry(
+    image: &mut [u32],
+    at: usize,
+    kind: u32,
+    x: u32,
+    y: u32,
+    z: u32,
+    flags: u32,
+    spread: u32,
+)
+    requires { ⌜ at + 7 ≤ length (now image) ⌝ }
+    ensures { λ _. ⌜ now (image .exit) ≡ sets (now (image .entry)) at (entryWords (entryMade kind x y z flags spread)) ⌝ }
+{
+    image[at] = kind;
+    image[at + 1] = x;
+    image[at + 2] = y;
+    image[at + 3] = z;
+    image[at + 4] = flags;
+    image[at + 5] = spread;
+    image[at + 6] = 0;
+}
+
+// Puts an entry behind the last.
+pub fn push_entry(image: &mut [u32], kind: u32, x: u32, y: u32, z: u32, flags: u32, spread: u32)
+    requires { ⌜ Shown (now image) ⌝ }
+    requires { ⌜ length (entriesOf (now image)) < storeOf (now image) .capacities .entries ⌝ }
+    ensures { λ _. ⌜ Shows (now (image .exit)) (entriesTo (now (image .entry)) (entriesOf (now (image .entry)) ++ (entryMade kind x y z flags spread ∷ []))) ⌝ }
+{
+    let count = image[ENTRIES_COUNT_AT];
+    write_entry(
+        image,
+        HEADER_WORDS + ENTRY_WIDTH * wide(count),
+        kind,
+        x,
+        y,
+        z,
+        flags,
+        spread,
+    );
+    image[ENTRIES_COUNT_AT] = count + 1;
+}
+
+// Takes the last entry off, and its words with it.
+pub fn pop_entry(image: &mut [u32])
+    requires { ⌜ Shown (now image) ⌝ }
+    requires { ⌜ 0 < length (entriesOf (now image)) ⌝ }
+    ensures { λ _. ⌜ Shows (now (image .exit)) (entriesTo (now (image .entry)) (take (length (entriesOf (now (image .entry))) - 1) (entriesOf (now (image .entry))))) ⌝ }
+{
+    let count = image[ENTRIES_COUNT_AT] - 1;
+    write_entry(
+        image,
+        HEADER_WORDS + ENTRY_WIDTH * wide(count),
+        0,
+        0,
+        0,
+        0,
+        0,
+        0,
+    );
+    image[ENTRIES_COUNT_AT] = count;
+}
+
+// Caches a negation at entry i: c is its number plus 1, or 0.
+pub fn put_negation(image: &mut [u32], i: u32, c: u32)
+    requires { ⌜ Shown (now image) ⌝ }
+    requires { ⌜ i < length (entriesOf (now image)) ⌝ }
+    ensures { λ _. ⌜ Shows (now (image .exit)) (entriesTo (now (image .entry)) (changed (withNegation c) (entriesOf (now (image .entry))) i)) ⌝ }
+{
+    image[HEADER_WORDS + ENTRY_WIDTH * wide(i) + NEGATION_WORD] = c;
+}
+
+// Marks entry i.
+pub fn put_mark(image: &mut [u32], i: u32)
+    requires { ⌜ Shown (now image) ⌝ }
+    requires { ⌜ i < length (entriesOf (now image)) ⌝ }
+    ensures { λ _. ⌜ Shows (now (image .exit)) (entriesTo (now (image .entry)) (changed withMark (entriesOf (now (image .entry))) i)) ⌝ }
+{
+    let flags = entry_word(image, i, FLAGS_WORD);
+    image[HEADER_WORDS + ENTRY_WIDTH * wide(i) + FLAGS_WORD] = flags - flags % 2 + MARK_FLAG;
+}
+
+// Puts entry i, a variable, at level l.
+pub fn put_level(image: &mut [u32], i: u32, l: u32)
+    requires { ⌜ Shown (now image) ⌝ }
+    requires { ⌜ i < length (entriesOf (now image)) ⌝ }
+    ensures { λ _. ⌜ Shows (now (image .exit)) (entriesTo (now (image .entry)) (changed (withX l) (entriesOf (now (image .entry))) i)) ⌝ }
+{
+    image[HEADER_WORDS + ENTRY_WIDTH * wide(i) + X_WORD] = l;
 }

@@ -1,0 +1,19 @@
+use mathlib.Core.Path.{refl}
+use Rattle.model.specs.Image.{table}
+use borrow.Author.Needs.{needs}
+use Rattle.image.proofs.break_kind.Statement.{statement}
+use Rattle.image.proofs.break_kind.Tie as tie
+use Rattle.image.proofs.break_kind.Reads as reads
+use Rattle.image.proofs.break_kind.Lts as lts
+
+-- src/lib.rt:224:5
+shared-slice-read-result : tie.Need-shared-slice-read-result
+shared-slice-read-result c = search needs
+
+-- src/lib.rt:220:1
+returns : tie.Need-returns
+unfolding table
+returns c = refl
+
+pub break-kind-spec : {M : Type 1} → statement M
+break-kind-spec = tie.close (tie.spec shared-slice-read-result returns)

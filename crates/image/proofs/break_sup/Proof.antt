@@ -1,0 +1,19 @@
+use mathlib.Core.Path.{refl}
+use Rattle.model.specs.Image.{table}
+use borrow.Author.Needs.{needs}
+use Rattle.image.proofs.break_sup.Statement.{statement}
+use Rattle.image.proofs.break_sup.Tie as tie
+use Rattle.image.proofs.break_sup.Reads as reads
+use Rattle.image.proofs.break_sup.Lts as lts
+
+-- src/lib.rt:238:5
+shared-slice-read-result : tie.Need-shared-slice-read-result
+shared-slice-read-result c = search needs
+
+-- src/lib.rt:234:1
+returns : tie.Need-returns
+unfolding table
+returns c = refl
+
+pub break-sup-spec : {M : Type 1} → statement M
+break-sup-spec = tie.close (tie.spec shared-slice-read-result returns)
