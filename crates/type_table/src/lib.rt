@@ -11,10 +11,10 @@ ghost use Rattle.model.specs.Table.{entryAt};
 ghost use Rattle.model.specs.Formed.{wellFormed};
 ghost use Rattle.model.specs.Making.{spreadOf, newEntry, makeNeg, undone};
 ghost use Rattle.model.specs.Told.{toldMade};
-ghost use Rattle.laws.specs.Good.{EntriesGood};
+ghost use Rattle.laws.specs.Good.{EntriesGood, Shallow};
 ghost use Rattle.image.specs.Laid.{Laid};
 ghost use Rattle.image.specs.Shown.{Shows, Shown, storeOf, entriesOf, fieldsIn, entriesTo};
-ghost use Rattle.type_table.specs.Made.{madeReply, Components, SpreadsLow, Added, NegatedIn};
+ghost use Rattle.type_table.specs.Made.{madeReply, Components, Added, NegatedIn};
 
 // The kinds that negation knows.
 const NEG: u32 = 6;
@@ -37,7 +37,7 @@ const NEGATION: usize = 6;
 fn spread_of(image: &[u32], kind: u32, x: u32, y: u32) -> u32
     requires { ⌜ Laid (now image) ⌝ }
     requires { ⌜ Components (entriesOf (now image)) kind x y ⌝ }
-    requires { ⌜ SpreadsLow (entriesOf (now image)) ⌝ }
+    requires { ⌜ Shallow (entriesOf (now image)) ⌝ }
     ensures { λ r. ⌜ r ≡ spreadOf (entriesOf (now (image .entry))) kind x y ⌝ }
 {
     match kind {
@@ -67,7 +67,7 @@ pub fn make(image: &mut [u32], kind: u32, x: u32, y: u32) -> Made
 }
 
 // What negating comes to: the number, or no room.
-enum Negated {
+pub enum Negated {
     Number(u32),
     Full,
 }
@@ -85,38 +85,4 @@ fn add(image: &mut [u32], kind: u32, x: u32, y: u32, spread: u32, n: u32) -> Neg
     image::push_entry(image, kind, x, y, 0, 0, spread);
     image::put_negation(image, n, number + 1);
     Negated::Number(number)
-}
-
-// Makes Neg(n), entry by entry, as far as there is room.
-fn negate(image: &mut [u32], n: u32) -> Negated
-    requires { ⌜ Shown (now image) ⌝ }
-    requires { ⌜ EntriesGood (entriesOf (now image)) (fieldsIn (now image)) (storeOf (now image) .names) ⌝ }
-    requires { ⌜ CachedLow (entriesOf (now image)) ⌝ }
-    requires { ⌜ n < length (entriesOf (now image)) ⌝ }
-    requires { ⌜ spreadAt (entriesOf (now image)) n ≤ 1024 ⌝ }
-    ensures { λ r. ⌜ NegatedIn (now (image .entry)) n r (now (image .exit)) ⌝ }
-{
-    let cached = image::entry_word(image, n, NEGATION);
-    if 0 < cached {
-        return Negated::Number(cached - 1);
-    }
-    let kind = image::entry_word(image, n, KIND);
-    if kind < NEG {
-        let spread = 1 + image::entry_word(image, n, SPREAD);
-        return add(image, NEG, n, 0, spread, n);
-    }
-    let x = image::entry_word(image, n, X);
-    if kind < INTER {
-        return Negated::Number(x);
-    }
-    let y = image::entry_word(image, n, Y);
-    let Negated::Number(p) = negate(image, x) else {
-        return Negated::Full;
-    };
-    let Negated::Number(q) = negate(image, y) else {
-        return Negated::Full;
-    };
-    let spread = 1 + image::entry_word(image, p, SPREAD) + image::entry_word(image, q, SPREAD);
-    // the inter of negations for a union, and the other way round
-    add(image, 2 * INTER + 1 - kind, p, q, spread, n)
 }

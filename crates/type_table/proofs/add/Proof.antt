@@ -1,0 +1,59 @@
+use borrow.Author.Needs.{needs}
+use Rattle.type_table.proofs.add.Statement.{statement}
+use Rattle.type_table.proofs.add.Tie as tie
+use Rattle.type_table.proofs.add.Reads as reads
+use Rattle.type_table.proofs.add.Lts as lts
+use Rattle.image.proofs.entries_capacity.Reads as entries-capacity-reads
+use Rattle.image.proofs.entries_count.Reads as entries-count-reads
+use Rattle.image.proofs.push_entry.Reads as push-entry-reads
+use Rattle.image.proofs.put_negation.Reads as put-negation-reads
+
+-- src/lib.rt:81:9
+entries-count-requires : tie.Need-entries-count-requires
+entries-count-requires c κs = ?
+
+-- src/lib.rt:82:8
+entries-capacity-requires : tie.Need-entries-capacity-requires
+entries-capacity-requires c κs = ?
+
+-- src/lib.rt:83:9
+same-length : tie.Need-same-length
+same-length c = search needs
+
+-- src/lib.rt:83:9
+returns : tie.Need-returns
+returns c = ?
+
+-- src/lib.rt:85:5
+push-entry-requires : tie.Need-push-entry-requires
+push-entry-requires c κs = search needs
+
+-- src/lib.rt:86:35
+add-put-negation : tie.Need-add-put-negation
+add-put-negation c = search needs
+
+-- src/lib.rt:86:5
+put-negation-requires : tie.Need-put-negation-requires
+put-negation-requires c κs = ?
+
+-- src/lib.rt:76:1
+same-length-2 : tie.Need-same-length-2
+same-length-2 c = search needs
+
+-- src/lib.rt:76:1
+returns-2 : tie.Need-returns-2
+returns-2 c = ?
+
+pub add-spec : {M : Type 1} → statement M
+add-spec =
+    tie.close
+    (tie.spec
+    entries-count-requires
+    entries-capacity-requires
+    same-length
+    returns
+    push-entry-requires
+    add-put-negation
+    put-negation-requires
+    same-length-2
+    returns-2)
