@@ -1,2 +1,3 @@
 pub mod Rounds
 pub mod Replies
+pub mod Steps
