@@ -20,7 +20,7 @@ use Rattle.laws.proofs.Formed.{sound-table}
 use Rattle.image.specs.Shown.{Shows, Shown, storeOf, entriesOf, entriesTo}
 use Rattle.image.specs.Records.{entryMade}
 use Rattle.image.proofs.Laying.{formed-shown, seen}
-use Rattle.type_table.specs.Made.{madeReply, Added}
+use Rattle.type_table.specs.Made.{madeReply, entriesIn, Added}
 use Rattle.type_table.specs.declared.Negated.the-variants as N
 use Rattle.type_table.proofs.Replies.{made-full, made-deep, made-done, put-too-deep}
 
@@ -73,22 +73,22 @@ module _ (w : List ℕ) (kind x y : ℕ) (good : T (wellFormed w)) where
         shows .is ∙ ap (λ (i : ℕ). words (entriesTo w (entriesOf w ++ (entryMade kind x y 0 0 i ∷ [])))) s ∙ q .1)
 
 -- an entry added and cached
-module _ (w : List ℕ) (kind x y spread n number room : ℕ) (e : number ≡ length (entriesOf w)) (r : room ≡ storeOf w .capacities .entries) where
-  pub add-full : room ≤ number → Added w kind x y spread n N.Full w
-  add-full h = record { done = λ l. absurd (omega arith); full = λ l. (refl, refl) }
+module _ (w : List ℕ) (kind x y spread n number room : ℕ) (shows : Shown w) (e : number ≡ length (entriesOf w)) (r : room ≡ storeOf w .capacities .entries) where
+  pub add-full : room ≤ number → Added (table w) kind x y spread n N.Full w
+  add-full h = record { done = λ l. absurd (omega arith); full = λ l. (refl, shows) }
 
   module _ (v : List ℕ) (sv : Shows v (entriesTo w (entriesOf w ++ (entryMade kind x y 0 0 spread ∷ [])))) where
     pub add-index : n < length (entriesOf w) → n < length (entriesOf v)
     unfolding withEntries
     add-index h = omega (arith, ap (λ (t : Table). length (t .store .entries)) (seen sv), more-length (entriesOf w) (entryMade kind x y 0 0 spread))
 
-    pub add-done : number < room → (u : List ℕ) → Shows u (entriesTo v (changed (withNegation (number + 1)) (entriesOf v) n)) → Added w kind x y spread n (N.Number number) u
+    pub add-done : number < room → (u : List ℕ) → Shows u (entriesTo v (changed (withNegation (number + 1)) (entriesOf v) n)) → Added (table w) kind x y spread n (N.Number number) u
     unfolding withEntries
     add-done h u su =
         let es : List Entry = entriesOf w ++ (entryMade kind x y 0 0 spread ∷ []) in
         let q : suc (length (entriesOf w)) ≡ number + 1 = omega arith in
         let a : Shows u (entriesTo w (changed (withNegation (number + 1)) es n)) =
-        subst (λ (t : Table). Shows u (record { store = withEntries (changed (withNegation (number + 1)) (t .store .entries) n) (t .store); pending = t .pending })) (seen sv) su in
+        subst (λ (t : Table). Shows u (entriesIn t (changed (withNegation (number + 1)) (t .store .entries) n))) (seen sv) su in
         record {
           done = λ l. (ap (λ (i : ℕ). N.Number i) e, rw q a);
           full = λ l. absurd (omega arith);

@@ -32,7 +32,7 @@ returns : tie.Need-returns
 returns c =
     let s = c .before .before .before .before .before .before in
     let a = s .args in
-    add-full (now (a .image)) (a .kind) (a .x) (a .y) (a .spread) (a .n) (c .before .before .before .entries-count .result) (c .before .entries-capacity .result) (c .before .before .before .entries-count .ensures) (c .before .entries-capacity .ensures) (c .if1 .taken)
+    add-full (now (a .image)) (a .kind) (a .x) (a .y) (a .spread) (a .n) (c .before .before .before .entries-count .result) (c .before .entries-capacity .result) (s .pre .0) (c .before .before .before .entries-count .ensures) (c .before .entries-capacity .ensures) (c .if1 .taken)
 
 -- src/lib.rt:85:5
 push-entry-requires : tie.Need-push-entry-requires
@@ -48,7 +48,7 @@ put-negation-requires : tie.Need-put-negation-requires
 put-negation-requires c κs =
     let s = c .before .before .before .before .before .before .before .before .before .before .before in
     let a = s .args in
-    (shown (c .before .before .before .push-entry .ensures), add-index (now (a .image)) (a .kind) (a .x) (a .y) (a .spread) (a .n) (c .before .before .before .before .before .before .before .before .entries-count .result) (c .before .before .before .before .before .before .entries-capacity .result) (c .before .before .before .before .before .before .before .before .entries-count .ensures) (c .before .before .before .before .before .before .entries-capacity .ensures) _ (c .before .before .before .push-entry .ensures) (s .pre .1))
+    (shown (c .before .before .before .push-entry .ensures), add-index (now (a .image)) (a .kind) (a .x) (a .y) (a .spread) (a .n) (c .before .before .before .before .before .before .before .before .entries-count .result) (c .before .before .before .before .before .before .entries-capacity .result) (s .pre .0) (c .before .before .before .before .before .before .before .before .entries-count .ensures) (c .before .before .before .before .before .before .entries-capacity .ensures) _ (c .before .before .before .push-entry .ensures) (s .pre .1))
 
 -- src/lib.rt:76:1
 same-length-2 : tie.Need-same-length-2
@@ -59,7 +59,7 @@ returns-2 : tie.Need-returns-2
 returns-2 c =
     let s = c .before .before .before .before .before .before .before .before .before .before .before .before .before .before in
     let a = s .args in
-    add-done (now (a .image)) (a .kind) (a .x) (a .y) (a .spread) (a .n) (c .before .before .before .before .before .before .before .before .before .before .before .entries-count .result) (c .before .before .before .before .before .before .before .before .before .entries-capacity .result) (c .before .before .before .before .before .before .before .before .before .before .before .entries-count .ensures) (c .before .before .before .before .before .before .before .before .before .entries-capacity .ensures) _ (c .before .before .before .before .before .before .push-entry .ensures) (c .before .before .before .before .before .before .before .before .if1 .left) _ (c .before .before .put-negation .ensures)
+    add-done (now (a .image)) (a .kind) (a .x) (a .y) (a .spread) (a .n) (c .before .before .before .before .before .before .before .before .before .before .before .entries-count .result) (c .before .before .before .before .before .before .before .before .before .entries-capacity .result) (s .pre .0) (c .before .before .before .before .before .before .before .before .before .before .before .entries-count .ensures) (c .before .before .before .before .before .before .before .before .before .entries-capacity .ensures) _ (c .before .before .before .before .before .before .push-entry .ensures) (c .before .before .before .before .before .before .before .before .if1 .left) _ (c .before .before .put-negation .ensures)
 
 pub add-spec : {M : Type 1} → statement M
 add-spec =
