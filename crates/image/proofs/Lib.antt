@@ -3,3 +3,5 @@ pub mod ReadOut
 pub mod Laying
 pub mod Placing
 pub mod Places
+pub mod Lent
+pub mod Pending

@@ -68,7 +68,7 @@ pub record Part {A : Type 0} (w : List ℕ) (f : A → List ℕ) (width k room :
 
 module _ {A : Type 0} {f : A → List ℕ} {of : List ℕ → A} {width : ℕ} (c : Coded f of width)
     {w : List ℕ} {k room : ℕ} {to : List A → Table} {counted : List A → List ℕ → List ℕ} {l : List A} (p : Part w f width k room to counted l) where
-  part-pushed : (a : A) → length l < room → Shows (counted (l ++ (a ∷ [])) (sets w (offset w k + width * count w k) (f a))) (to (l ++ (a ∷ [])))
+  pub part-pushed : (a : A) → length l < room → Shows (counted (l ++ (a ∷ [])) (sets w (offset w k + width * count w k) (f a))) (to (l ++ (a ∷ [])))
   part-pushed a h = record {
     within = p .within (l ++ (a ∷ [])) (rw more-length (omega arith));
     is =
@@ -77,7 +77,7 @@ module _ {A : Type 0} {f : A → List ℕ} {of : List ℕ → A} {width : ℕ} (
         ∙ pushed c (p .place) l a h;
   }
 
-  part-popped : A → 0 < length l
+  pub part-popped : A → 0 < length l
       → Shows (counted (take (length l - 1) l) (sets w (offset w k + width * (count w k - 1)) (replicate width 0))) (to (take (length l - 1) l))
   part-popped d h =
       let j : ℕ = length l - 1 in
@@ -94,7 +94,7 @@ module _ {A : Type 0} {f : A → List ℕ} {of : List ℕ → A} {width : ℕ} (
             ∙ popped c (p .place) m (getD l j d) (omega (arith, n, p .fits));
       }
 
-  part-put : (i j v : ℕ) (b d : A) → i < length l → j < width → f b ≡ set (f (getD l i d)) j v → p .place .before (set l i b) ≡ p .place .before l
+  pub part-put : (i j v : ℕ) (b d : A) → i < length l → j < width → f b ≡ set (f (getD l i d)) j v → p .place .before (set l i b) ≡ p .place .before l
       → Shows (set w (offset w k + width * i + j) v) (to (set l i b))
   part-put i j v b d h g e same = record {
     within = p .within (set l i b) (rw (length-set l i b) (p .fits));

@@ -1,3 +1,4 @@
 pub mod Laid
 pub mod Shown
 pub mod Records
+pub mod Stores

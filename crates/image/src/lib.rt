@@ -5,18 +5,32 @@ use model::Dynamic;
 use model::Entry;
 ghost use mathlib.Core.Path.{_≡_};
 ghost use mathlib.Core.List.{[], _∷_, _++_};
+ghost use mathlib.Core.Bool.{cond};
 ghost use Prim.Native.Nat.{ℕ, _+_, _-_, _*_, _≤_, _<_};
 ghost use lib.ListN.{length, getD, take};
 ghost use lib.Seq.{sets};
 ghost use Rattle.model.specs.Format.{entriesRegion, fieldsRegion, boundsRegion, visitedRegion, pendingRegion, equalsRegion};
-ghost use Rattle.model.specs.Table.{entryAt};
-ghost use Rattle.model.specs.Image.{word, count, entryWords, fieldWords, boundWords, pairWords};
+ghost use Rattle.model.specs.Format.{idle, asked};
+ghost use Rattle.model.specs.Lists.{isZero};
+ghost use Rattle.model.specs.Table.{_⊑_, entryAt, isAsked};
+ghost use Rattle.model.specs.Image.{word, count, table, entryWords, fieldWords, boundWords, pairWords};
 ghost use Rattle.model.specs.Making.{changed, withNegation, withMark};
 ghost use Rattle.model.specs.Calls.{readOut, withX};
 ghost use Rattle.image.specs.Laid.{Laid};
 ghost use Rattle.image.specs.Shown.{Shows, Shown, storeOf, entriesOf, fieldsIn, boundsAll, visitedIn, pendingIn, equalsIn};
-ghost use Rattle.image.specs.Shown.{entriesTo};
+ghost use Rattle.image.specs.Shown.{entriesTo, fieldsTo, boundsTo, visitedTo, pendingTo, equalsTo, brokenTo, levelTo};
+ghost use Rattle.image.specs.Stores.{Room, appended, Last, removed};
 ghost use Rattle.image.specs.Records.{entryMade, fieldAt, boundAt, pairAt, saysOpen, saysDynamic, dynamicRead, attrsetRead};
+
+// How many records each region takes.
+pub struct Capacities {
+    pub entries: u32,
+    pub fields: u32,
+    pub bounds: u32,
+    pub visited: u32,
+    pub pending: u32,
+    pub equals: u32,
+}
 
 // The header's words: where each stands, as in the model's Format.
 pub const FORMAT_AT: usize = 0;
@@ -74,6 +88,11 @@ pub const EQUALS_CAPACITY_AT: usize = 25;
 pub const EQUALS_COUNT_AT: usize = 26;
 
 pub const HEADER_WORDS: usize = 27;
+
+// The state word.
+pub const IDLE: u32 = 0;
+
+pub const ASKED: u32 = 1;
 
 // An entry's flags.
 pub const MARK_FLAG: u32 = 1;
@@ -456,4 +475,168 @@ pub fn put_level(image: &mut [u32], i: u32, l: u32)
     ensures { λ _. ⌜ Shows (now (image .exit)) (entriesTo (now (image .entry)) (changed (withX l) (entriesOf (now (image .entry))) i)) ⌝ }
 {
     image[HEADER_WORDS + ENTRY_WIDTH * wide(i) + X_WORD] = l;
+}
+
+// Writes a pair, or a triple, as record n of a region that is lent from its offset on.
+fn put_pair(region: &mut [u32], n: usize, a: u32, b: u32)
+    requires { ⌜ 2 * n + 2 ≤ length (now region) ⌝ }
+    ensures { λ _. ⌜ now (region .exit) ≡ sets (now (region .entry)) (2 * n) (a ∷ b ∷ []) ⌝ }
+{
+    region[2 * n] = a;
+    region[2 * n + 1] = b;
+}
+
+fn put_triple(region: &mut [u32], n: usize, a: u32, b: u32, c: u32)
+    requires { ⌜ 3 * n + 3 ≤ length (now region) ⌝ }
+    ensures { λ _. ⌜ now (region .exit) ≡ sets (now (region .entry)) (3 * n) (a ∷ b ∷ c ∷ []) ⌝ }
+{
+    region[3 * n] = a;
+    region[3 * n + 1] = b;
+    region[3 * n + 2] = c;
+}
+
+// Puts a pair, or a triple, behind the last of the region whose offset and count are at these words of the header.
+fn append_pair(image: &mut [u32], offset: usize, counter: usize, a: u32, b: u32)
+    requires { ⌜ Room (now image) offset counter 2 ⌝ }
+    ensures { λ _. ⌜ now (image .exit) ≡ appended (now (image .entry)) offset counter 2 (a ∷ b ∷ []) ⌝ }
+{
+    let at = wide(image[offset]);
+    let n = image[counter];
+    put_pair(&mut image[at..], wide(n), a, b);
+    image[counter] = n + 1;
+}
+
+fn append_triple(image: &mut [u32], offset: usize, counter: usize, a: u32, b: u32, c: u32)
+    requires { ⌜ Room (now image) offset counter 3 ⌝ }
+    ensures { λ _. ⌜ now (image .exit) ≡ appended (now (image .entry)) offset counter 3 (a ∷ b ∷ c ∷ []) ⌝ }
+{
+    let at = wide(image[offset]);
+    let n = image[counter];
+    put_triple(&mut image[at..], wide(n), a, b, c);
+    image[counter] = n + 1;
+}
+
+// Takes the last pair off such a region, and its words with it.
+fn remove_pair(image: &mut [u32], offset: usize, counter: usize)
+    requires { ⌜ Last (now image) offset counter 2 ⌝ }
+    ensures { λ _. ⌜ now (image .exit) ≡ removed (now (image .entry)) offset counter 2 ⌝ }
+{
+    let at = wide(image[offset]);
+    let n = image[counter] - 1;
+    put_pair(&mut image[at..], wide(n), 0, 0);
+    image[counter] = n;
+}
+
+// Puts a field record behind the last.
+pub fn push_field(image: &mut [u32], name: u32, entry: u32, optional: u32)
+    requires { ⌜ Shown (now image) ⌝ }
+    requires { ⌜ length (fieldsIn (now image)) < storeOf (now image) .capacities .fields ⌝ }
+    ensures { λ _. ⌜ Shows (now (image .exit)) (fieldsTo (now (image .entry)) (fieldsIn (now (image .entry)) ++ (record { name = name; entry = entry; optional = optional } ∷ []))) ⌝ }
+{
+    append_triple(
+        image,
+        FIELDS_OFFSET_AT,
+        FIELDS_COUNT_AT,
+        name,
+        entry,
+        optional,
+    );
+}
+
+// Puts a bound behind the last.
+pub fn push_bound(image: &mut [u32], variable: u32, side: u32, bound: u32)
+    requires { ⌜ Shown (now image) ⌝ }
+    requires { ⌜ length (boundsAll (now image)) < storeOf (now image) .capacities .bounds ⌝ }
+    ensures { λ _. ⌜ Shows (now (image .exit)) (boundsTo (now (image .entry)) (boundsAll (now (image .entry)) ++ (record { variable = variable; side = side; bound = bound } ∷ []))) ⌝ }
+{
+    append_triple(
+        image,
+        BOUNDS_OFFSET_AT,
+        BOUNDS_COUNT_AT,
+        variable,
+        side,
+        bound,
+    );
+}
+
+// Records a pair as visited.
+pub fn push_visited(image: &mut [u32], sub: u32, sup: u32)
+    requires { ⌜ Shown (now image) ⌝ }
+    requires { ⌜ length (visitedIn (now image)) < storeOf (now image) .capacities .visited ⌝ }
+    ensures { λ _. ⌜ Shows (now (image .exit)) (visitedTo (now (image .entry)) (visitedIn (now (image .entry)) ++ ((sub ⊑ sup) ∷ []))) ⌝ }
+{
+    append_pair(image, VISITED_OFFSET_AT, VISITED_COUNT_AT, sub, sup);
+}
+
+// Records a pair as asked equal.
+pub fn push_equal(image: &mut [u32], left: u32, right: u32)
+    requires { ⌜ Shown (now image) ⌝ }
+    requires { ⌜ length (equalsIn (now image)) < storeOf (now image) .capacities .equals ⌝ }
+    ensures { λ _. ⌜ Shows (now (image .exit)) (equalsTo (now (image .entry)) (equalsIn (now (image .entry)) ++ ((left ⊑ right) ∷ []))) ⌝ }
+{
+    append_pair(image, EQUALS_OFFSET_AT, EQUALS_COUNT_AT, left, right);
+}
+
+// Puts a pair behind the last pending one, and the state to asked.
+pub fn push_pending(image: &mut [u32], sub: u32, sup: u32)
+    requires { ⌜ Shown (now image) ⌝ }
+    requires { ⌜ length (pendingIn (now image)) < storeOf (now image) .capacities .pending ⌝ }
+    ensures { λ _. ⌜ Shows (now (image .exit)) (pendingTo (now (image .entry)) (pendingIn (now (image .entry)) ++ ((sub ⊑ sup) ∷ []))) ⌝ }
+{
+    append_pair(image, PENDING_OFFSET_AT, PENDING_COUNT_AT, sub, sup);
+    image[STATE_AT] = ASKED;
+}
+
+// The state where n pairs are pending.
+fn state_of(n: u32) -> u32
+    ensures { λ r. ⌜ r ≡ cond (isZero n) idle asked ⌝ }
+{
+    if n == 0 { IDLE } else { ASKED }
+}
+
+// Takes the last pending pair off, and its words with it; the state goes idle with the last of all.
+pub fn pop_pending(image: &mut [u32])
+    requires { ⌜ Shown (now image) ⌝ }
+    requires { ⌜ 0 < length (pendingIn (now image)) ⌝ }
+    ensures { λ _. ⌜ Shows (now (image .exit)) (pendingTo (now (image .entry)) (take (length (pendingIn (now (image .entry))) - 1) (pendingIn (now (image .entry))))) ⌝ }
+{
+    remove_pair(image, PENDING_OFFSET_AT, PENDING_COUNT_AT);
+    image[STATE_AT] = state_of(image[PENDING_COUNT_AT]);
+}
+
+// Takes every pending pair off.
+pub fn clear_pending(image: &mut [u32])
+    requires { ⌜ Shown (now image) ⌝ }
+    ensures { λ _. ⌜ Shows (now (image .exit)) (pendingTo (now (image .entry)) []) ⌝ }
+{
+    while 0 < image[PENDING_COUNT_AT] {
+        pop_pending(image);
+    }
+}
+
+// Writes the break words.
+pub fn put_break(image: &mut [u32], kind: u32, sub: u32, sup: u32, name: u32)
+    requires { ⌜ Shown (now image) ⌝ }
+    ensures { λ _. ⌜ Shows (now (image .exit)) (brokenTo (now (image .entry)) (record { kind = kind; sub = sub; sup = sup; name = name })) ⌝ }
+{
+    image[BREAK_KIND_AT] = kind;
+    image[BREAK_SUB_AT] = sub;
+    image[BREAK_SUP_AT] = sup;
+    image[BREAK_NAME_AT] = name;
+}
+
+// Puts the current level.
+pub fn put_current_level(image: &mut [u32], l: u32)
+    requires { ⌜ Shown (now image) ⌝ }
+    ensures { λ _. ⌜ Shows (now (image .exit)) (levelTo (now (image .entry)) l) ⌝ }
+{
+    image[LEVEL_AT] = l;
+}
+
+// Whether a question is asked.
+pub fn is_asked(image: &[u32]) -> bool
+    requires { ⌜ Shown (now image) ⌝ }
+    ensures { λ r. ⌜ r ≡ isAsked (table (now (image .entry))) ⌝ }
+{
+    image[STATE_AT] != IDLE
 }

@@ -1,0 +1,54 @@
+use Rattle.image.proofs.Pending.{shows-broken}
+use Rattle.image.proofs.Places.{facts}
+use lib.ListN.{length-set}
+use native.Mathlib.Omega.{arith}
+use borrow.Author.Needs.{needs}
+use Rattle.image.proofs.put_break.Statement.{statement}
+use Rattle.image.proofs.put_break.Tie as tie
+use Rattle.image.proofs.put_break.Reads as reads
+use Rattle.image.proofs.put_break.Lts as lts
+
+-- src/lib.rt:614:5
+slice-write-image : tie.Need-slice-write-image
+slice-write-image c =
+    let f = facts (c .pre) in
+    omega arith
+
+-- src/lib.rt:615:5
+slice-write-image-2 : tie.Need-slice-write-image-2
+slice-write-image-2 c =
+    let f = facts (c .pre) in
+    simp length-set (omega arith)
+
+-- src/lib.rt:616:5
+slice-write-image-3 : tie.Need-slice-write-image-3
+slice-write-image-3 c =
+    let f = facts (c .pre) in
+    simp length-set (omega arith)
+
+-- src/lib.rt:617:5
+slice-write-image-4 : tie.Need-slice-write-image-4
+slice-write-image-4 c =
+    let f = facts (c .pre) in
+    simp length-set (omega arith)
+
+-- src/lib.rt:610:1
+same-length : tie.Need-same-length
+same-length c = search needs
+
+-- src/lib.rt:610:1
+returns : tie.Need-returns
+returns c =
+    let a = c .args in
+    shows-broken _ (c .pre) (record { kind = a .kind; sub = a .sub; sup = a .sup; name = a .name })
+
+pub put-break-spec : {M : Type 1} → statement M
+put-break-spec =
+    tie.close
+    (tie.spec
+    slice-write-image
+    slice-write-image-2
+    slice-write-image-3
+    slice-write-image-4
+    same-length
+    returns)
