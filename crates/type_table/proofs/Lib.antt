@@ -1,3 +1,4 @@
 pub mod Rounds
 pub mod Replies
 pub mod Steps
+pub mod Undoing
