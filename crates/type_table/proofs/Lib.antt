@@ -2,3 +2,4 @@ pub mod Rounds
 pub mod Replies
 pub mod Steps
 pub mod Undoing
+pub mod Negating

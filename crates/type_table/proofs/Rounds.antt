@@ -1,17 +1,20 @@
 -- Making Neg(n) without rounds: in good entries it is by cases on n, the negations of the parts made the same way. Assumes nothing.
-use Prim.Native.Nat.{ℕ, zero, suc, _≤_, _<_}
+use Prim.Native.Nat.{ℕ, zero, suc, _+_, _-_, _≤_, _<_}
 use native.Mathlib.Omega.{arith}
 use mathlib.Core.Path.{_≡_, refl, sym, ap, _∙_}
 use mathlib.Core.List.{List}
 use mathlib.Core.Bool.{Bool, true, false, cond}
+use mathlib.Core.Logic.{⊎-elim}
 use lib.ListN.{length}
 use lib.Dec.{eqb}
-use borrow.Author.Tests.{eqb-true}
+use borrow.Author.Tests.{eqb-true, eq-eqb, ne-eqb}
 use Rattle.model.specs.Format.{neg, inter, union}
 use Rattle.model.specs.Table.{Entry, Field, entryAt, is}
 use Rattle.model.specs.Making.{Making, newEntry, cachedAs, Negating, cached, twice, spreadOver, fresh, negatingUncached, negatingBy, negating, negBy, negWithin, makeNeg}
-use Rattle.laws.specs.Good.{EntriesGood}
-use Rattle.laws.proofs.Entries.{x-known, y-known}
+use Rattle.model.specs.Formed.{kindKnown}
+use Rattle.laws.specs.Good.{EntriesGood, entryGood}
+use Rattle.laws.proofs.Tests.{nth, le-of}
+use Rattle.laws.proofs.Entries.{lt-or-ge, x-known, y-known}
 use Rattle.laws.proofs.Negation.{Grown, grown-within}
 
 -- the parts of an entry whose negation spreads over them are its components
@@ -70,3 +73,40 @@ module _ (fs : List Field) (names : ℕ) where
   neg-by es n g h =
       same-by (negWithin n) makeNeg es n g h (λ us i gu ni lt. grown-within fs names n us i gu ni lt)
       (λ us i gu ni lt. agree n (suc i) us i gu ni (omega arith) lt) (negating (entryAt es n)) (parts-of (entryAt es n))
+
+-- Neg(n) in each of the cases
+module _ (es : List Entry) (fs : List Field) (names n : ℕ) (g : EntriesGood es fs names) (h : n < length es) where
+  neg-as : (d : Negating) → negating (entryAt es n) ≡ d → makeNeg es n ≡ negBy makeNeg es n d
+  neg-as d e = neg-by fs names es n g h ∙ ap (λ (c : Negating). negBy makeNeg es n c) e
+
+  pub kind-known : entryAt es n .kind ≤ union
+  unfolding entryGood kindKnown
+  kind-known = le-of (entryAt es n .kind) union (nth _ 0 (g n h))
+
+  pub neg-cached : (c : ℕ) → entryAt es n .negation ≡ suc c → makeNeg es n ≡ record { number = c; after = es }
+  unfolding negBy negating negatingBy
+  neg-cached c e = neg-as (cached c) (rw e)
+
+  pub neg-twice : entryAt es n .negation ≡ 0 → entryAt es n .kind ≡ neg → makeNeg es n ≡ record { number = entryAt es n .x; after = es }
+  unfolding negBy negating negatingBy negatingUncached is
+  neg-twice z e = neg-as (twice (entryAt es n .x)) (rw (z, eq-eqb (entryAt es n .kind) neg e))
+
+  pub neg-fresh : entryAt es n .negation ≡ 0 → entryAt es n .kind < neg → makeNeg es n ≡ cachedAs n (newEntry es neg n 0)
+  unfolding negBy negating negatingBy negatingUncached is
+  neg-fresh z l =
+      neg-as fresh (rw (z, ne-eqb (entryAt es n .kind) neg (λ e. omega arith), ne-eqb (entryAt es n .kind) inter (λ e. omega arith), ne-eqb (entryAt es n .kind) union (λ e. omega arith)))
+
+  over-is : entryAt es n .negation ≡ 0 → neg < entryAt es n .kind → negating (entryAt es n) ≡ spreadOver (inter + union - entryAt es n .kind) (entryAt es n .x) (entryAt es n .y)
+  unfolding negating negatingBy negatingUncached is
+  over-is z l =
+      ⊎-elim
+      (λ (lt : entryAt es n .kind < union). let e : entryAt es n .kind ≡ inter = omega arith in rw (z, e))
+      (λ (ge : union ≤ entryAt es n .kind). let e : entryAt es n .kind ≡ union = omega (arith, kind-known) in rw (z, e))
+      (lt-or-ge (entryAt es n .kind) union)
+
+  -- an inter or a union: the negations of its parts, one after the other, and the union or inter of them
+  pub neg-over : entryAt es n .negation ≡ 0 → neg < entryAt es n .kind
+      → makeNeg es n ≡ cachedAs n (newEntry (makeNeg (makeNeg es (entryAt es n .x) .after) (entryAt es n .y) .after) (inter + union - entryAt es n .kind)
+      (makeNeg es (entryAt es n .x) .number) (makeNeg (makeNeg es (entryAt es n .x) .after) (entryAt es n .y) .number))
+  unfolding negBy
+  neg-over z l = neg-as (spreadOver (inter + union - entryAt es n .kind) (entryAt es n .x) (entryAt es n .y)) (over-is z l)

@@ -17,6 +17,7 @@ ghost use Rattle.type_table.specs.Made.{madeReply, Components, Added, Ne
 // The kinds that negation knows.
 const NEG: u32 = 6;
 const INTER: u32 = 7;
+const UNION: u32 = 8;
 
 // The region that lacks a record.
 const ENTRIES: u32 = 1;
@@ -139,7 +140,7 @@ pub fn negate(image: &mut [u32], n: u32) -> Negated
     };
     let spread = 1 + image::entry_word(image, p, SPREAD) + image::entry_word(image, q, SPREAD);
     // the inter of negations for a union, and the other way round
-    add(image, 2 * INTER + 1 - kind, p, q, spread, n)
+    add(image, INTER + UNION - kind, p, q, spread, n)
 }
 
 // Makes Neg(n), or leaves every word as found.

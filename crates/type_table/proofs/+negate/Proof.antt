@@ -18,7 +18,7 @@ negate-at t = and 1 negate-kinds.ps (is 1 negate-kinds.ps μ-negate t) negate.Pr
 abbrev negate-below : ℕ → In 1 negate-kinds.ps
 negate-below t = and 1 negate-kinds.ps (falls 1 negate-kinds.ps _<_ μ-negate t) negate.Pre
 
--- src/lib.rt:120:9
+-- src/lib.rt:121:9
 negate-entry-word-requires : (t : ℕ) → negate-lts.Need-entry-word-requires (
   entry-word-reads.Asked,
   entry-word-reads.Learnt,
@@ -29,7 +29,7 @@ negate-entry-word-requires : (t : ℕ) → negate-lts.Need-entry-word-requires (
 ) (negate-at t) negate.Post
 negate-entry-word-requires t c κs = ?
 
--- src/lib.rt:122:32
+-- src/lib.rt:123:32
 negate-sub-t14 : (t : ℕ) → negate-lts.Need-sub-t14 (
   entry-word-reads.Asked,
   entry-word-reads.Learnt,
@@ -40,7 +40,7 @@ negate-sub-t14 : (t : ℕ) → negate-lts.Need-sub-t14 (
 ) (negate-at t) negate.Post
 negate-sub-t14 t c = ?
 
--- src/lib.rt:122:9
+-- src/lib.rt:123:9
 negate-same-length : (t : ℕ) → negate-lts.Need-same-length (
   entry-word-reads.Asked,
   entry-word-reads.Learnt,
@@ -51,7 +51,7 @@ negate-same-length : (t : ℕ) → negate-lts.Need-same-length (
 ) (negate-at t) negate.Post
 negate-same-length t c = ?
 
--- src/lib.rt:122:9
+-- src/lib.rt:123:9
 negate-returns : (t : ℕ) → negate-lts.Need-returns (
   entry-word-reads.Asked,
   entry-word-reads.Learnt,
@@ -62,7 +62,7 @@ negate-returns : (t : ℕ) → negate-lts.Need-returns (
 ) (negate-at t) negate.Post
 negate-returns t c = ?
 
--- src/lib.rt:124:9
+-- src/lib.rt:125:9
 negate-entry-word-requires-2 : (t : ℕ) → negate-lts.Need-entry-word-requires-2 (
   entry-word-reads.Asked,
   entry-word-reads.Learnt,
@@ -73,7 +73,7 @@ negate-entry-word-requires-2 : (t : ℕ) → negate-lts.Need-entry-word-requires
 ) (negate-at t) negate.Post
 negate-entry-word-requires-2 t c κs = ?
 
--- src/lib.rt:126:26
+-- src/lib.rt:127:26
 negate-entry-word-requires-3 : (t : ℕ) → negate-lts.Need-entry-word-requires-3 (
   entry-word-reads.Asked,
   entry-word-reads.Learnt,
@@ -84,7 +84,7 @@ negate-entry-word-requires-3 : (t : ℕ) → negate-lts.Need-entry-word-requires
 ) (negate-at t) negate.Post
 negate-entry-word-requires-3 t c κs = ?
 
--- src/lib.rt:126:22
+-- src/lib.rt:127:22
 negate-add-spread : (t : ℕ) → negate-lts.Need-add-spread (
   entry-word-reads.Asked,
   entry-word-reads.Learnt,
@@ -95,7 +95,7 @@ negate-add-spread : (t : ℕ) → negate-lts.Need-add-spread (
 ) (negate-at t) negate.Post
 negate-add-spread t c = ?
 
--- src/lib.rt:127:9
+-- src/lib.rt:128:9
 negate-add-requires : (t : ℕ) → negate-lts.Need-add-requires (
   entry-word-reads.Asked,
   entry-word-reads.Learnt,
@@ -106,7 +106,7 @@ negate-add-requires : (t : ℕ) → negate-lts.Need-add-requires (
 ) (negate-at t) negate.Post
 negate-add-requires t c κs = ?
 
--- src/lib.rt:127:9
+-- src/lib.rt:128:9
 negate-same-length-2 : (t : ℕ) → negate-lts.Need-same-length-2 (
   entry-word-reads.Asked,
   entry-word-reads.Learnt,
@@ -117,7 +117,7 @@ negate-same-length-2 : (t : ℕ) → negate-lts.Need-same-length-2 (
 ) (negate-at t) negate.Post
 negate-same-length-2 t c = ?
 
--- src/lib.rt:127:9
+-- src/lib.rt:128:9
 negate-returns-2 : (t : ℕ) → negate-lts.Need-returns-2 (
   entry-word-reads.Asked,
   entry-word-reads.Learnt,
@@ -128,7 +128,7 @@ negate-returns-2 : (t : ℕ) → negate-lts.Need-returns-2 (
 ) (negate-at t) negate.Post
 negate-returns-2 t c = ?
 
--- src/lib.rt:129:9
+-- src/lib.rt:130:9
 negate-entry-word-requires-4 : (t : ℕ) → negate-lts.Need-entry-word-requires-4 (
   entry-word-reads.Asked,
   entry-word-reads.Learnt,
@@ -139,7 +139,7 @@ negate-entry-word-requires-4 : (t : ℕ) → negate-lts.Need-entry-word-requires
 ) (negate-at t) negate.Post
 negate-entry-word-requires-4 t c κs = ?
 
--- src/lib.rt:131:9
+-- src/lib.rt:132:9
 negate-same-length-3 : (t : ℕ) → negate-lts.Need-same-length-3 (
   entry-word-reads.Asked,
   entry-word-reads.Learnt,
@@ -150,7 +150,7 @@ negate-same-length-3 : (t : ℕ) → negate-lts.Need-same-length-3 (
 ) (negate-at t) negate.Post
 negate-same-length-3 t c = ?
 
--- src/lib.rt:131:9
+-- src/lib.rt:132:9
 negate-returns-3 : (t : ℕ) → negate-lts.Need-returns-3 (
   entry-word-reads.Asked,
   entry-word-reads.Learnt,
@@ -161,7 +161,7 @@ negate-returns-3 : (t : ℕ) → negate-lts.Need-returns-3 (
 ) (negate-at t) negate.Post
 negate-returns-3 t c = ?
 
--- src/lib.rt:133:9
+-- src/lib.rt:134:9
 negate-entry-word-requires-5 : (t : ℕ) → negate-lts.Need-entry-word-requires-5 (
   entry-word-reads.Asked,
   entry-word-reads.Learnt,
@@ -172,7 +172,7 @@ negate-entry-word-requires-5 : (t : ℕ) → negate-lts.Need-entry-word-requires
 ) (negate-at t) negate.Post
 negate-entry-word-requires-5 t c κs = ?
 
--- src/lib.rt:134:30
+-- src/lib.rt:135:30
 negate-negate-requires : (t : ℕ) → negate-lts.Need-negate-requires (
   entry-word-reads.Asked,
   entry-word-reads.Learnt,
@@ -183,7 +183,7 @@ negate-negate-requires : (t : ℕ) → negate-lts.Need-negate-requires (
 ) (negate-at t) negate.Post
 negate-negate-requires t c κs = ?
 
--- src/lib.rt:134:25
+-- src/lib.rt:135:25
 negate-enum-known-p : (t : ℕ) → negate-lts.Need-enum-known-p (
   entry-word-reads.Asked,
   entry-word-reads.Learnt,
@@ -194,7 +194,7 @@ negate-enum-known-p : (t : ℕ) → negate-lts.Need-enum-known-p (
 ) (negate-at t) negate.Post
 negate-enum-known-p t c = ?
 
--- src/lib.rt:135:9
+-- src/lib.rt:136:9
 negate-enum-told : (t : ℕ) → negate-lts.Need-enum-told (
   entry-word-reads.Asked,
   entry-word-reads.Learnt,
@@ -205,7 +205,7 @@ negate-enum-told : (t : ℕ) → negate-lts.Need-enum-told (
 ) (negate-at t) negate.Post
 negate-enum-told t c = ?
 
--- src/lib.rt:135:9
+-- src/lib.rt:136:9
 negate-same-length-4 : (t : ℕ) → negate-lts.Need-same-length-4 (
   entry-word-reads.Asked,
   entry-word-reads.Learnt,
@@ -216,7 +216,7 @@ negate-same-length-4 : (t : ℕ) → negate-lts.Need-same-length-4 (
 ) (negate-at t) negate.Post
 negate-same-length-4 t c = ?
 
--- src/lib.rt:135:9
+-- src/lib.rt:136:9
 negate-returns-4 : (t : ℕ) → negate-lts.Need-returns-4 (
   entry-word-reads.Asked,
   entry-word-reads.Learnt,
@@ -227,7 +227,7 @@ negate-returns-4 : (t : ℕ) → negate-lts.Need-returns-4 (
 ) (negate-at t) negate.Post
 negate-returns-4 t c = ?
 
--- src/lib.rt:137:30
+-- src/lib.rt:138:30
 negate-negate-requires-2 : (t : ℕ) → negate-lts.Need-negate-requires-2 (
   entry-word-reads.Asked,
   entry-word-reads.Learnt,
@@ -238,7 +238,7 @@ negate-negate-requires-2 : (t : ℕ) → negate-lts.Need-negate-requires-2 (
 ) (negate-at t) negate.Post
 negate-negate-requires-2 t c κs = ?
 
--- src/lib.rt:137:25
+-- src/lib.rt:138:25
 negate-enum-known-q : (t : ℕ) → negate-lts.Need-enum-known-q (
   entry-word-reads.Asked,
   entry-word-reads.Learnt,
@@ -249,7 +249,7 @@ negate-enum-known-q : (t : ℕ) → negate-lts.Need-enum-known-q (
 ) (negate-at t) negate.Post
 negate-enum-known-q t c = ?
 
--- src/lib.rt:138:9
+-- src/lib.rt:139:9
 negate-enum-told-2 : (t : ℕ) → negate-lts.Need-enum-told-2 (
   entry-word-reads.Asked,
   entry-word-reads.Learnt,
@@ -260,7 +260,7 @@ negate-enum-told-2 : (t : ℕ) → negate-lts.Need-enum-told-2 (
 ) (negate-at t) negate.Post
 negate-enum-told-2 t c = ?
 
--- src/lib.rt:138:9
+-- src/lib.rt:139:9
 negate-same-length-5 : (t : ℕ) → negate-lts.Need-same-length-5 (
   entry-word-reads.Asked,
   entry-word-reads.Learnt,
@@ -271,7 +271,7 @@ negate-same-length-5 : (t : ℕ) → negate-lts.Need-same-length-5 (
 ) (negate-at t) negate.Post
 negate-same-length-5 t c = ?
 
--- src/lib.rt:138:9
+-- src/lib.rt:139:9
 negate-returns-5 : (t : ℕ) → negate-lts.Need-returns-5 (
   entry-word-reads.Asked,
   entry-word-reads.Learnt,
@@ -282,7 +282,7 @@ negate-returns-5 : (t : ℕ) → negate-lts.Need-returns-5 (
 ) (negate-at t) negate.Post
 negate-returns-5 t c = ?
 
--- src/lib.rt:140:22
+-- src/lib.rt:141:22
 negate-entry-word-requires-6 : (t : ℕ) → negate-lts.Need-entry-word-requires-6 (
   entry-word-reads.Asked,
   entry-word-reads.Learnt,
@@ -293,7 +293,7 @@ negate-entry-word-requires-6 : (t : ℕ) → negate-lts.Need-entry-word-requires
 ) (negate-at t) negate.Post
 negate-entry-word-requires-6 t c κs = ?
 
--- src/lib.rt:140:18
+-- src/lib.rt:141:18
 negate-add-spread-2 : (t : ℕ) → negate-lts.Need-add-spread-2 (
   entry-word-reads.Asked,
   entry-word-reads.Learnt,
@@ -304,7 +304,7 @@ negate-add-spread-2 : (t : ℕ) → negate-lts.Need-add-spread-2 (
 ) (negate-at t) negate.Post
 negate-add-spread-2 t c = ?
 
--- src/lib.rt:140:60
+-- src/lib.rt:141:60
 negate-entry-word-requires-7 : (t : ℕ) → negate-lts.Need-entry-word-requires-7 (
   entry-word-reads.Asked,
   entry-word-reads.Learnt,
@@ -315,7 +315,7 @@ negate-entry-word-requires-7 : (t : ℕ) → negate-lts.Need-entry-word-requires
 ) (negate-at t) negate.Post
 negate-entry-word-requires-7 t c κs = ?
 
--- src/lib.rt:140:18
+-- src/lib.rt:141:18
 negate-add-spread-3 : (t : ℕ) → negate-lts.Need-add-spread-3 (
   entry-word-reads.Asked,
   entry-word-reads.Learnt,
@@ -326,18 +326,7 @@ negate-add-spread-3 : (t : ℕ) → negate-lts.Need-add-spread-3 (
 ) (negate-at t) negate.Post
 negate-add-spread-3 t c = ?
 
--- src/lib.rt:142:16
-negate-mul-add : (t : ℕ) → negate-lts.Need-mul-add (
-  entry-word-reads.Asked,
-  entry-word-reads.Learnt,
-  add-reads.Asked,
-  add-reads.Learnt,
-  negate-below t,
-  negate.Post,
-) (negate-at t) negate.Post
-negate-mul-add t c = ?
-
--- src/lib.rt:142:16
+-- src/lib.rt:143:16
 negate-add-add : (t : ℕ) → negate-lts.Need-add-add (
   entry-word-reads.Asked,
   entry-word-reads.Learnt,
@@ -348,7 +337,7 @@ negate-add-add : (t : ℕ) → negate-lts.Need-add-add (
 ) (negate-at t) negate.Post
 negate-add-add t c = ?
 
--- src/lib.rt:142:16
+-- src/lib.rt:143:16
 negate-sub-add : (t : ℕ) → negate-lts.Need-sub-add (
   entry-word-reads.Asked,
   entry-word-reads.Learnt,
@@ -359,7 +348,7 @@ negate-sub-add : (t : ℕ) → negate-lts.Need-sub-add (
 ) (negate-at t) negate.Post
 negate-sub-add t c = ?
 
--- src/lib.rt:142:5
+-- src/lib.rt:143:5
 negate-add-requires-2 : (t : ℕ) → negate-lts.Need-add-requires-2 (
   entry-word-reads.Asked,
   entry-word-reads.Learnt,
@@ -370,7 +359,7 @@ negate-add-requires-2 : (t : ℕ) → negate-lts.Need-add-requires-2 (
 ) (negate-at t) negate.Post
 negate-add-requires-2 t c κs = ?
 
--- src/lib.rt:116:1
+-- src/lib.rt:117:1
 negate-same-length-6 : (t : ℕ) → negate-lts.Need-same-length-6 (
   entry-word-reads.Asked,
   entry-word-reads.Learnt,
@@ -381,7 +370,7 @@ negate-same-length-6 : (t : ℕ) → negate-lts.Need-same-length-6 (
 ) (negate-at t) negate.Post
 negate-same-length-6 t c = ?
 
--- src/lib.rt:116:1
+-- src/lib.rt:117:1
 negate-returns-6 : (t : ℕ) → negate-lts.Need-returns-6 (
   entry-word-reads.Asked,
   entry-word-reads.Learnt,
@@ -431,7 +420,6 @@ pub +negate-spec : {M : Type 1} → statement M
     (negate-add-spread-2 t)
     (negate-entry-word-requires-7 t)
     (negate-add-spread-3 t)
-    (negate-mul-add t)
     (negate-add-add t)
     (negate-sub-add t)
     (negate-add-requires-2 t)
