@@ -3,3 +3,4 @@ pub mod Replies
 pub mod Steps
 pub mod Undoing
 pub mod Negating
+pub mod Answers
