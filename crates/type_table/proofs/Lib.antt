@@ -1,0 +1,6 @@
+pub mod Rounds
+pub mod Replies
+pub mod Steps
+pub mod Undoing
+pub mod Negating
+pub mod Answers

@@ -1,0 +1,163 @@
+// Making entries in an image: each concrete, and negation with its cache. A refusal leaves every word as found.
+use model::Made;
+use model::Refusal;
+ghost use mathlib.Core.Path.{_≡_};
+ghost use Prim.Native.Nat.{_≤_, _<_};
+ghost use lib.ListN.{length, take};
+ghost use lib.Dec.{T};
+ghost use Rattle.model.specs.Formed.{wellFormed};
+ghost use Rattle.model.specs.Image.{table};
+ghost use Rattle.model.specs.Making.{spreadOf, newEntry, makeNeg, undone};
+ghost use Rattle.model.specs.Told.{toldMade};
+ghost use Rattle.laws.specs.Good.{Shallow};
+ghost use Rattle.image.specs.Laid.{Laid};
+ghost use Rattle.image.specs.Shown.{Shows, Shown, entriesOf, entriesTo};
+ghost use Rattle.type_table.specs.Made.{madeReply, Components, Added, Negatable, NegatedIn};
+
+// The kinds that negation knows.
+const NEG: u32 = 6;
+const INTER: u32 = 7;
+const UNION: u32 = 8;
+
+// The region that lacks a record.
+const ENTRIES: u32 = 1;
+
+// No new entry spreads further.
+const SPREAD_MOST: u32 = 1024;
+
+// Where an entry has its words.
+const KIND: usize = 0;
+const X: usize = 1;
+const Y: usize = 2;
+const SPREAD: usize = 5;
+const NEGATION: usize = 6;
+
+// How far an entry of this kind, with these words, spreads.
+fn spread_of(image: &[u32], kind: u32, x: u32, y: u32) -> u32
+    requires { ⌜ Laid (now image) ⌝ }
+    requires { ⌜ Components (entriesOf (now image)) kind x y ⌝ }
+    requires { ⌜ Shallow (entriesOf (now image)) ⌝ }
+    ensures { λ r. ⌜ r ≡ spreadOf (entriesOf (now (image .entry))) kind x y ⌝ }
+{
+    match kind {
+        0..=4 => 1,
+        5..=6 => 1 + image::entry_word(image, x, SPREAD),
+        _ => 1 + image::entry_word(image, x, SPREAD) + image::entry_word(image, y, SPREAD),
+    }
+}
+
+// Makes an entry that has no z and no flags.
+pub fn make(image: &mut [u32], kind: u32, x: u32, y: u32) -> Made
+    requires { ⌜ T (wellFormed (now image)) ⌝ }
+    requires { ⌜ Components (entriesOf (now image)) kind x y ⌝ }
+    ensures { λ r. ⌜ toldMade r ≡ madeReply (now (image .entry)) (newEntry (entriesOf (now (image .entry))) kind x y) .says ⌝ }
+    ensures { λ _. ⌜ now (image .exit) ≡ madeReply (now (image .entry)) (newEntry (entriesOf (now (image .entry))) kind x y) .words ⌝ }
+{
+    let number = image::entries_count(image);
+    if image::entries_capacity(image) <= number {
+        return Made::Refused(Refusal::NoRoom(ENTRIES));
+    }
+    let spread = spread_of(image, kind, x, y);
+    if SPREAD_MOST < spread {
+        return Made::Refused(Refusal::TooDeep);
+    }
+    image::push_entry(image, kind, x, y, 0, 0, spread);
+    Made::Number(number)
+}
+
+// What negating comes to: the number, or no room.
+pub enum Negated {
+    Number(u32),
+    Full,
+}
+
+// Puts an entry, cached as the negation of n, if there is room.
+fn add(image: &mut [u32], kind: u32, x: u32, y: u32, spread: u32, n: u32) -> Negated
+    requires { ⌜ Shown (now image) ⌝ }
+    requires { ⌜ n < length (entriesOf (now image)) ⌝ }
+    ensures { λ r. ⌜ Added (table (now (image .entry))) kind x y spread n r (now (image .exit)) ⌝ }
+{
+    let number = image::entries_count(image);
+    if image::entries_capacity(image) <= number {
+        return Negated::Full;
+    }
+    image::push_entry(image, kind, x, y, 0, 0, spread);
+    image::put_negation(image, n, number + 1);
+    Negated::Number(number)
+}
+
+// Takes off every entry from number old on.
+fn pop_to(image: &mut [u32], old: u32)
+    requires { ⌜ Shown (now image) ⌝ }
+    requires { ⌜ old ≤ length (entriesOf (now image)) ⌝ }
+    ensures { λ _. ⌜ Shows (now (image .exit)) (entriesTo (now (image .entry)) (take old (entriesOf (now (image .entry))))) ⌝ }
+{
+    while old < image::entries_count(image) {
+        image::pop_entry(image);
+    }
+}
+
+// Undoes what making did to an image that had old entries: a cached number that is none of these is taken back.
+pub fn undo(image: &mut [u32], old: u32)
+    requires { ⌜ Shown (now image) ⌝ }
+    requires { ⌜ old ≤ length (entriesOf (now image)) ⌝ }
+    ensures { λ _. ⌜ Shows (now (image .exit)) (entriesTo (now (image .entry)) (undone old (entriesOf (now (image .entry))))) ⌝ }
+{
+    pop_to(image, old);
+    let mut i: u32 = 0;
+    while i < old {
+        if old < image::entry_word(image, i, NEGATION) {
+            image::put_negation(image, i, 0);
+        }
+        i += 1;
+    }
+}
+
+// Makes Neg(n), entry by entry, as far as there is room.
+pub fn negate(image: &mut [u32], n: u32) -> Negated
+    requires { ⌜ Negatable (now image) n ⌝ }
+    ensures { λ r. ⌜ NegatedIn (table (now (image .entry))) n r (now (image .exit)) ⌝ }
+{
+    let cached = image::entry_word(image, n, NEGATION);
+    if 0 < cached {
+        return Negated::Number(cached - 1);
+    }
+    let kind = image::entry_word(image, n, KIND);
+    if kind < NEG {
+        let spread = 1 + image::entry_word(image, n, SPREAD);
+        return add(image, NEG, n, 0, spread, n);
+    }
+    let x = image::entry_word(image, n, X);
+    if kind < INTER {
+        return Negated::Number(x);
+    }
+    let y = image::entry_word(image, n, Y);
+    let Negated::Number(p) = negate(image, x) else {
+        return Negated::Full;
+    };
+    let Negated::Number(q) = negate(image, y) else {
+        return Negated::Full;
+    };
+    let spread = 1 + image::entry_word(image, p, SPREAD) + image::entry_word(image, q, SPREAD);
+    // the inter of negations for a union, and the other way round
+    add(image, INTER + UNION - kind, p, q, spread, n)
+}
+
+// Makes Neg(n), or leaves every word as found.
+pub fn make_neg(image: &mut [u32], n: u32) -> Made
+    requires { ⌜ T (wellFormed (now image)) ⌝ }
+    requires { ⌜ n < length (entriesOf (now image)) ⌝ }
+    ensures { λ r. ⌜ toldMade r ≡ madeReply (now (image .entry)) (makeNeg (entriesOf (now (image .entry))) n) .says ⌝ }
+    ensures { λ _. ⌜ now (image .exit) ≡ madeReply (now (image .entry)) (makeNeg (entriesOf (now (image .entry))) n) .words ⌝ }
+{
+    let old = image::entries_count(image);
+    let Negated::Number(k) = negate(image, n) else {
+        undo(image, old);
+        return Made::Refused(Refusal::NoRoom(ENTRIES));
+    };
+    if SPREAD_MOST < image::entry_word(image, k, SPREAD) {
+        undo(image, old);
+        return Made::Refused(Refusal::TooDeep);
+    }
+    Made::Number(k)
+}
