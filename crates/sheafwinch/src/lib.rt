@@ -2,13 +2,199 @@
 // its contract is the model's definition of that call: `perform` in crates/model/specs/Calls.antt.
 use model::Disjointness;
 use model::EntryRead;
+use model::Made;
 use model::Refusal;
 ghost use mathlib.Core.Path.{_≡_};
+ghost use Prim.Native.Nat.{_≤_};
 ghost use lib.Dec.{T};
+ghost use Rattle.model.specs.Format.{neg};
 ghost use Rattle.model.specs.Image.{table};
 ghost use Rattle.model.specs.Formed.{wellFormed};
-ghost use Rattle.model.specs.Calls.{replyOf, readEntryTurn, readDisjointTurn, perform, readsEntry, readsDisjoint};
-ghost use Rattle.model.specs.Told.{toldEntryRead, toldDisjointness};
+ghost use Rattle.model.specs.Calls.{replyOf, variableTurn, primitiveTurn, oneTurn, twoTurn, negTurn, readEntryTurn, readDisjointTurn, perform, makesVariable, makesPrimitive, makesList, makesLambda, makesNamed, makesNeg, makesInter, makesUnion, readsEntry, readsDisjoint};
+ghost use Rattle.model.specs.Told.{toldMade, toldEntryRead, toldDisjointness};
+
+// Kinds.
+const VARIABLE: u32 = 0;
+
+const PRIMITIVE: u32 = 1;
+
+const LIST: u32 = 2;
+
+const LAMBDA: u32 = 3;
+
+const NAMED: u32 = 5;
+
+const INTER: u32 = 7;
+
+const UNION: u32 = 8;
+
+// The last primitive.
+const NUMBER: u32 = 7;
+
+// Makes a variable at the current level.
+pub fn make_variable(image: &mut [u32]) -> Made
+    ensures { λ r. ⌜ toldMade r ≡ perform makesVariable (now (image .entry)) .says ⌝ }
+    ensures { λ _. ⌜ now (image .exit) ≡ perform makesVariable (now (image .entry)) .words ⌝ }
+{
+    if !formed::check(image) {
+        return Made::Refused(Refusal::BadTable);
+    }
+    variable_in(image)
+}
+
+// The same in a well formed image, as all that end in `_in`.
+fn variable_in(image: &mut [u32]) -> Made
+    requires { ⌜ T (wellFormed (now image)) ⌝ }
+    ensures { λ r. ⌜ toldMade r ≡ replyOf (now (image .entry)) (variableTurn (table (now (image .entry)))) .says ⌝ }
+    ensures { λ _. ⌜ now (image .exit) ≡ replyOf (now (image .entry)) (variableTurn (table (now (image .entry)))) .words ⌝ }
+{
+    if image::is_asked(image) {
+        return Made::Refused(Refusal::Busy);
+    }
+    let level = image::level(image);
+    type_table::make(image, VARIABLE, level, 0)
+}
+
+// Makes a primitive, 0 to 7.
+pub fn make_primitive(image: &mut [u32], which: u32) -> Made
+    ensures { λ r. ⌜ toldMade r ≡ perform (makesPrimitive which) (now (image .entry)) .says ⌝ }
+    ensures { λ _. ⌜ now (image .exit) ≡ perform (makesPrimitive which) (now (image .entry)) .words ⌝ }
+{
+    if !formed::check(image) {
+        return Made::Refused(Refusal::BadTable);
+    }
+    primitive_in(image, which)
+}
+
+// A primitive.
+fn primitive_in(image: &mut [u32], which: u32) -> Made
+    requires { ⌜ T (wellFormed (now image)) ⌝ }
+    ensures { λ r. ⌜ toldMade r ≡ replyOf (now (image .entry)) (primitiveTurn which (table (now (image .entry)))) .says ⌝ }
+    ensures { λ _. ⌜ now (image .exit) ≡ replyOf (now (image .entry)) (primitiveTurn which (table (now (image .entry)))) .words ⌝ }
+{
+    if image::is_asked(image) {
+        return Made::Refused(Refusal::Busy);
+    }
+    if NUMBER < which {
+        return Made::Refused(Refusal::BadNumber);
+    }
+    type_table::make(image, PRIMITIVE, which, 0)
+}
+
+// Makes a list of an element.
+pub fn make_list(image: &mut [u32], element: u32) -> Made
+    ensures { λ r. ⌜ toldMade r ≡ perform (makesList element) (now (image .entry)) .says ⌝ }
+    ensures { λ _. ⌜ now (image .exit) ≡ perform (makesList element) (now (image .entry)) .words ⌝ }
+{
+    if !formed::check(image) {
+        return Made::Refused(Refusal::BadTable);
+    }
+    one_in(image, LIST, element, 0)
+}
+
+// Makes a named entry; the label is never tested.
+pub fn make_named(image: &mut [u32], inner: u32, label: u32) -> Made
+    ensures { λ r. ⌜ toldMade r ≡ perform (makesNamed inner label) (now (image .entry)) .says ⌝ }
+    ensures { λ _. ⌜ now (image .exit) ≡ perform (makesNamed inner label) (now (image .entry)) .words ⌝ }
+{
+    if !formed::check(image) {
+        return Made::Refused(Refusal::BadTable);
+    }
+    one_in(image, NAMED, inner, label)
+}
+
+// An entry of one component, and a word that is none.
+fn one_in(image: &mut [u32], kind: u32, x: u32, label: u32) -> Made
+    requires { ⌜ T (wellFormed (now image)) ⌝ }
+    requires { ⌜ kind ≤ neg ⌝ }
+    ensures { λ r. ⌜ toldMade r ≡ replyOf (now (image .entry)) (oneTurn kind x label (table (now (image .entry)))) .says ⌝ }
+    ensures { λ _. ⌜ now (image .exit) ≡ replyOf (now (image .entry)) (oneTurn kind x label (table (now (image .entry)))) .words ⌝ }
+{
+    if image::is_asked(image) {
+        return Made::Refused(Refusal::Busy);
+    }
+    if image::entries_count(image) <= x {
+        return Made::Refused(Refusal::BadNumber);
+    }
+    type_table::make(image, kind, x, label)
+}
+
+// Makes a lambda.
+pub fn make_lambda(image: &mut [u32], param: u32, body: u32) -> Made
+    ensures { λ r. ⌜ toldMade r ≡ perform (makesLambda param body) (now (image .entry)) .says ⌝ }
+    ensures { λ _. ⌜ now (image .exit) ≡ perform (makesLambda param body) (now (image .entry)) .words ⌝ }
+{
+    if !formed::check(image) {
+        return Made::Refused(Refusal::BadTable);
+    }
+    two_in(image, LAMBDA, param, body)
+}
+
+// Makes an intersection.
+pub fn make_inter(image: &mut [u32], left: u32, right: u32) -> Made
+    ensures { λ r. ⌜ toldMade r ≡ perform (makesInter left right) (now (image .entry)) .says ⌝ }
+    ensures { λ _. ⌜ now (image .exit) ≡ perform (makesInter left right) (now (image .entry)) .words ⌝ }
+{
+    if !formed::check(image) {
+        return Made::Refused(Refusal::BadTable);
+    }
+    two_in(image, INTER, left, right)
+}
+
+// Makes a union.
+pub fn make_union(image: &mut [u32], left: u32, right: u32) -> Made
+    ensures { λ r. ⌜ toldMade r ≡ perform (makesUnion left right) (now (image .entry)) .says ⌝ }
+    ensures { λ _. ⌜ now (image .exit) ≡ perform (makesUnion left right) (now (image .entry)) .words ⌝ }
+{
+    if !formed::check(image) {
+        return Made::Refused(Refusal::BadTable);
+    }
+    two_in(image, UNION, left, right)
+}
+
+// An entry of two components.
+fn two_in(image: &mut [u32], kind: u32, x: u32, y: u32) -> Made
+    requires { ⌜ T (wellFormed (now image)) ⌝ }
+    ensures { λ r. ⌜ toldMade r ≡ replyOf (now (image .entry)) (twoTurn kind x y (table (now (image .entry)))) .says ⌝ }
+    ensures { λ _. ⌜ now (image .exit) ≡ replyOf (now (image .entry)) (twoTurn kind x y (table (now (image .entry)))) .words ⌝ }
+{
+    if image::is_asked(image) {
+        return Made::Refused(Refusal::Busy);
+    }
+    if image::entries_count(image) <= x {
+        return Made::Refused(Refusal::BadNumber);
+    }
+    if image::entries_count(image) <= y {
+        return Made::Refused(Refusal::BadNumber);
+    }
+    type_table::make(image, kind, x, y)
+}
+
+// Makes the negation of an entry, or answers the one that stands there.
+pub fn make_neg(image: &mut [u32], n: u32) -> Made
+    ensures { λ r. ⌜ toldMade r ≡ perform (makesNeg n) (now (image .entry)) .says ⌝ }
+    ensures { λ _. ⌜ now (image .exit) ≡ perform (makesNeg n) (now (image .entry)) .words ⌝ }
+{
+    if !formed::check(image) {
+        return Made::Refused(Refusal::BadTable);
+    }
+    neg_in(image, n)
+}
+
+// A negation.
+fn neg_in(image: &mut [u32], n: u32) -> Made
+    requires { ⌜ T (wellFormed (now image)) ⌝ }
+    ensures { λ r. ⌜ toldMade r ≡ replyOf (now (image .entry)) (negTurn n (table (now (image .entry)))) .says ⌝ }
+    ensures { λ _. ⌜ now (image .exit) ≡ replyOf (now (image .entry)) (negTurn n (table (now (image .entry)))) .words ⌝ }
+{
+    if image::is_asked(image) {
+        return Made::Refused(Refusal::Busy);
+    }
+    if image::entries_count(image) <= n {
+        return Made::Refused(Refusal::BadNumber);
+    }
+    type_table::make_neg(image, n)
+}
 
 // Reads an entry out.
 pub fn entry(image: &[u32], n: u32) -> EntryRead

@@ -180,13 +180,16 @@ module _ (w : List ℕ) (n kind x y : ℕ) (s : Parts w n kind x y) where
 
   -- what the first call asks
   pub pre-one : (x < n) × Negatable w x
-  pre-one = rw (s .x-is) (below-x, record {
-    shows = s .pre .shows;
-    good = s .pre .good;
-    low = s .pre .low;
-    below = omega (arith, below-x, under);
-    shallow = omega (arith, sum, s .pre .shallow);
-  })
+  pre-one = rw (s .x-is) (
+    below-x,
+    record {
+      shows = s .pre .shows;
+      good = s .pre .good;
+      low = s .pre .low;
+      below = omega (arith, below-x, under);
+      shallow = omega (arith, sum, s .pre .shallow);
+    },
+  )
 
   -- its answer, in the words of the model
   first-of : (a b : Negated) (v : List ℕ) → NegatedIn (table w) x a v → a ≡ b → NegatedIn (table w) (entryAt (entriesOf w) n .x) b v
@@ -233,10 +236,19 @@ module _ (w : List ℕ) (n kind x y : ℕ) (s : Parts w n kind x y) where
         let k = b .full l .1 in
         record {
           done = λ le. absurd (omega (arith, size));
-          full = λ gt. (refl, (k .0, (k .1 .0, record {
-            longer = omega (arith, grown-x .least, k .1 .1 .longer);
-            undo = undoable-trans (entriesOf w) (left (entriesOf w) n .after) (k .0) (grown-x .least) (grown-x .undo) (k .1 .1 .undo);
-          })));
+          full = λ gt. (
+            refl,
+            (
+              k .0,
+              (
+                k .1 .0,
+                record {
+                  longer = omega (arith, grown-x .least, k .1 .1 .longer);
+                  undo = undoable-trans (entriesOf w) (left (entriesOf w) n .after) (k .0) (grown-x .least) (grown-x .undo) (k .1 .1 .undo);
+                },
+              ),
+            ),
+          );
         }
 
     pub done-two : (a : Negated) (u : List ℕ) (q : ℕ) → NegatedIn (table v) y a u → a ≡ N.Number q → Second w n p q u
@@ -278,9 +290,17 @@ module _ (w : List ℕ) (n kind x y : ℕ) (s : Parts w n kind x y) where
       record {
         done = λ le. rw (over, so) (h .done (omega (arith, size)));
         full = λ gt.
-            let z = h .full (omega (arith, size)) in
-            (z .0, (us, (z .1, record {
-              longer = omega (arith, grown-x .least, grown-y .least);
-              undo = undoable-trans (entriesOf w) (left (entriesOf w) n .after) us (grown-x .least) (grown-x .undo) (grown-y .undo);
-            })));
+            let z = h .full (omega (arith, size)) in (
+              z .0,
+              (
+                us,
+                (
+                  z .1,
+                  record {
+                    longer = omega (arith, grown-x .least, grown-y .least);
+                    undo = undoable-trans (entriesOf w) (left (entriesOf w) n .after) us (grown-x .least) (grown-x .undo) (grown-y .undo);
+                  },
+                ),
+              ),
+            );
       }

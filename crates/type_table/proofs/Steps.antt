@@ -68,9 +68,10 @@ module _ (w : List ℕ) (kind x y : ℕ) (good : T (wellFormed w)) where
     make-done d v shows =
         let m : Making = newEntry (entriesOf w) kind x y in
         let q = replied w m _ (made-done w m (formed-shown w good .within) fits
-        (put-too-deep (entriesOf w) kind x y 0 0 (sound-table w good .store .shallow) ∙ le-ltb spreadMost (spreadOf (entriesOf w) kind x y) (omega arith))) in
-        (ap (λ (i : ℕ). done (i ∷ [])) n ∙ q .0,
-        shows .is ∙ ap (λ (i : ℕ). words (entriesTo w (entriesOf w ++ (entryMade kind x y 0 0 i ∷ [])))) s ∙ q .1)
+        (put-too-deep (entriesOf w) kind x y 0 0 (sound-table w good .store .shallow) ∙ le-ltb spreadMost (spreadOf (entriesOf w) kind x y) (omega arith))) in (
+          ap (λ (i : ℕ). done (i ∷ [])) n ∙ q .0,
+          shows .is ∙ ap (λ (i : ℕ). words (entriesTo w (entriesOf w ++ (entryMade kind x y 0 0 i ∷ [])))) s ∙ q .1,
+        )
 
 -- an entry added and cached
 module _ (w : List ℕ) (kind x y spread n number room : ℕ) (shows : Shown w) (e : number ≡ length (entriesOf w)) (r : room ≡ storeOf w .capacities .entries) where

@@ -16,7 +16,9 @@ ghost use Rattle.type_table.specs.Made.{madeReply, Components, Added, Ne
 
 // The kinds that negation knows.
 const NEG: u32 = 6;
+
 const INTER: u32 = 7;
+
 const UNION: u32 = 8;
 
 // The region that lacks a record.
@@ -27,9 +29,13 @@ const SPREAD_MOST: u32 = 1024;
 
 // Where an entry has its words.
 const KIND: usize = 0;
+
 const X: usize = 1;
+
 const Y: usize = 2;
+
 const SPREAD: usize = 5;
+
 const NEGATION: usize = 6;
 
 // How far an entry of this kind, with these words, spreads.

@@ -1,0 +1,75 @@
+use native.Mathlib.Omega.{arith}
+use mathlib.Core.Path.{sym, _∙_}
+use lib.Dec.{leb}
+use denote.Ref.{now}
+use borrow.Author.Tests.{le-leb, lt-leb}
+use borrow.Author.Needs.{needs}
+use Rattle.model.specs.Format.{number}
+use Rattle.model.specs.Calls.{primitiveTurn, newTurn}
+use Rattle.image.proofs.Laying.{formed-shown}
+use Rattle.sheafwinch.proofs.Turning.{busy, idle, misnumbered, numbered}
+use Rattle.sheafwinch.proofs.primitive_in.Statement.{statement}
+use Rattle.sheafwinch.proofs.primitive_in.Tie as tie
+use Rattle.sheafwinch.proofs.primitive_in.Reads as reads
+use Rattle.sheafwinch.proofs.primitive_in.Lts as lts
+use Rattle.image.proofs.is_asked.Reads as is-asked-reads
+use Rattle.type_table.proofs.make.Reads as make-reads
+
+-- src/lib.rt:75:8
+is-asked-requires : tie.Need-is-asked-requires
+is-asked-requires c κs =
+    formed-shown _ (c .before .before .pre)
+
+-- src/lib.rt:76:9
+same-length : tie.Need-same-length
+same-length c = search needs
+
+-- src/lib.rt:76:9
+returns : tie.Need-returns
+unfolding primitiveTurn
+returns c =
+    let s = c .before .before .before .before in
+    let k = busy (now (s .args .image)) _ (sym (c .before .is-asked .ensures) ∙ c .if1 .taken) in
+    (k .says, k .leaves)
+
+-- src/lib.rt:79:9
+same-length-2 : tie.Need-same-length-2
+same-length-2 c = search needs
+
+-- src/lib.rt:79:9
+returns-2 : tie.Need-returns-2
+unfolding primitiveTurn
+returns-2 c =
+    let s = c .before .before .before .before .before in
+    let k = idle (now (s .args .image)) _ (sym (c .before .before .is-asked .ensures) ∙ c .before .if1 .left) (misnumbered (now (s .args .image)) _ (leb (s .args .which) number) (lt-leb (s .args .which) number (omega arith))) in
+    (k .says, k .leaves)
+
+-- src/lib.rt:81:5
+make-requires : tie.Need-make-requires
+make-requires c κs = search needs
+
+-- src/lib.rt:70:1
+same-length-3 : tie.Need-same-length-3
+same-length-3 c = search needs
+
+-- src/lib.rt:70:1
+returns-3 : tie.Need-returns-3
+unfolding primitiveTurn newTurn
+returns-3 c =
+    let s = c .before .before .before .before .before .before .before .before .before in
+    let k = idle (now (s .args .image)) _ (sym (c .before .before .before .before .before .before .is-asked .ensures) ∙ c .before .before .before .before .before .if1 .left) (numbered (now (s .args .image)) _ (leb (s .args .which) number) (le-leb (s .args .which) number (omega arith))
+    (record { says = c .before .before .make .ensures .0; leaves = c .before .before .make .ensures .1 })) in
+    (k .says, k .leaves)
+
+pub primitive-in-spec : {M : Type 1} → statement M
+primitive-in-spec =
+    tie.close
+    (tie.spec
+    is-asked-requires
+    same-length
+    returns
+    same-length-2
+    returns-2
+    make-requires
+    same-length-3
+    returns-3)
