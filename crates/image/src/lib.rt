@@ -1,5 +1,6 @@
-// The image over lent words: the header and six regions, read record by record.
-// specs/Laid.antt says how words are laid out, specs/Shown.antt that they show a table.
+// The image over lent words: the header and six regions, started, read record by record, and changed record by record.
+// specs/Laid.antt says how words are laid out, specs/Shown.antt that they show a table: what changes an image says which
+// table its words show.
 use model::Attrset;
 use model::Dynamic;
 use model::Entry;
@@ -671,7 +672,7 @@ pub fn is_asked(image: &[u32]) -> bool
 fn join(low: u32, high: u32) -> u64
     ensures { λ r. ⌜ r ≡ low + high * wordEnd ⌝ }
 {
-    (low as u64) + (high as u64) * WORD_END
+    low as u64 + high as u64 * WORD_END
 }
 
 // Whether the pair (a, b) is among the first n of a region that is lent from its offset on.
@@ -729,10 +730,10 @@ fn capacities_small(c: Capacities) -> bool
 fn clear(image: &mut [u32])
     ensures { λ _. ⌜ now (image .exit) ≡ replicate (length (now (image .entry))) 0 ⌝ }
 {
-    let mut i = 0;
-    while i < image.len() {
-        image[i] = 0;
-        i += 1;
+    let mut at = 0;
+    while at < image.len() {
+        image[at] = 0;
+        at += 1;
     }
 }
 
@@ -761,13 +762,14 @@ fn put_header(image: &mut [u32], names: u32, functor: u32, capacities: Capacitie
     requires { ⌜ Small (capacitiesOf capacities) ⌝ }
     ensures { λ _. ⌜ now (image .exit) ≡ headed (now (image .entry)) names functor (capacitiesOf capacities) ⌝ }
 {
-    let fields = 27 + 7 * capacities.entries;
-    let bounds = fields + 3 * capacities.fields;
-    let visited = bounds + 3 * capacities.bounds;
-    let pending = visited + 2 * capacities.visited;
-    let equals = pending + 2 * capacities.pending;
+    let entries = HEADER_WORDS as u32;
+    let fields = entries + ENTRY_WIDTH as u32 * capacities.entries;
+    let bounds = fields + FIELD_WIDTH as u32 * capacities.fields;
+    let visited = bounds + BOUND_WIDTH as u32 * capacities.bounds;
+    let pending = visited + VISITED_WIDTH as u32 * capacities.visited;
+    let equals = pending + PENDING_WIDTH as u32 * capacities.pending;
     put_front(image, names, functor);
-    put_region(image, 0, 27, capacities.entries);
+    put_region(image, 0, entries, capacities.entries);
     put_region(image, 1, fields, capacities.fields);
     put_region(image, 2, bounds, capacities.bounds);
     put_region(image, 3, visited, capacities.visited);
