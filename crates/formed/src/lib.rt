@@ -1,12 +1,11 @@
 // Whether lent words are a well formed image: a function for each condition of document 01, named as the model's test that it
 // decides, and `check`, which is all of them. No test of many records stops early: an image is nearly always well formed.
 ghost use mathlib.Core.Path.{_≡_};
-ghost use mathlib.Core.List.{[], _∷_};
 ghost use mathlib.Core.Bool.{cond, _&&_};
-ghost use Prim.Native.Nat.{ℕ, _+_, _*_, _≤_, _<_};
+ghost use Prim.Native.Nat.{_+_, _*_, _≤_, _<_};
 ghost use lib.ListN.{length, take, drop};
 ghost use lib.Dec.{eqb, leb, ltb};
-ghost use Rattle.model.specs.Lists.{isZero, allOf, all, allFrom};
+ghost use Rattle.model.specs.Lists.{isZero, all, allFrom};
 ghost use Rattle.model.specs.Format.{wordEnd, headerWords, idle, variable};
 ghost use Rattle.model.specs.Table.{entryAt, isAt};
 ghost use Rattle.model.specs.Image.{offset, capacity, count, pairOf, recordsOf, table};
