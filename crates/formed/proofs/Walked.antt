@@ -5,12 +5,12 @@ use native.Mathlib.Nat.{zero-add}
 use native.Mathlib.Numerals.{add-one}
 use mathlib.Core.Path.{_≡_, refl, sym, ap, _∙_}
 use mathlib.Core.List.{List, [], _∷_}
-use mathlib.Core.Bool.{Bool, true, _&&_, and-true, and-assoc}
+use mathlib.Core.Bool.{Bool, _&&_, and-true, and-assoc}
 use lib.ListN.{length, getD, take, drop}
 use lib.Seq.{take-all}
 use lib.Dec.{ltb}
 use Rattle.model.specs.Lists.{all, allFrom, readMany}
-use Rattle.model.specs.Table.{Entry, Pair}
+use Rattle.model.specs.Table.{Entry}
 use Rattle.model.specs.Image.{pairOf}
 use Rattle.model.specs.Formed.{isEntry, pairRight}
 

@@ -1,8 +1,8 @@
 -- The groups of tests are the model's tests, and what they say is laid out. Assumes nothing.
-use Prim.Native.Nat.{ℕ, _+_, _-_, _*_, _≤_, _<_}
+use Prim.Native.Nat.{ℕ, _+_, _-_, _*_, _≤_}
 use native.Mathlib.Omega.{arith}
 use native.Mathlib.Nat.{mul-le-mul-left}
-use mathlib.Core.Path.{_≡_, refl, sym, ap, _∙_}
+use mathlib.Core.Path.{_≡_, sym, ap, _∙_}
 use mathlib.Core.List.{List, [], _∷_}
 use mathlib.Core.Bool.{Bool, true, _&&_, and-true, and-assoc}
 use lib.ListN.{length, take, drop, length-drop}
@@ -10,8 +10,7 @@ use mir.Syntax.{w32}
 use mir.Val.{Fits}
 use lib.Dec.{T, eqb, leb, ltb}
 use Rattle.model.specs.Lists.{isZero, allOf, all}
-use Rattle.model.specs.Format.{headerWords, entriesRegion, fieldsRegion, boundsRegion, visitedRegion, pendingRegion, equalsRegion}
-use Rattle.model.specs.Format.{entryWidth, fieldWidth, boundWidth, visitedWidth, pendingWidth, equalsWidth}
+use Rattle.model.specs.Format.{headerWords, entriesRegion, equalsRegion, equalsWidth}
 use Rattle.model.specs.Image.{word, offset, capacity, count, pairOf, recordsOf, table}
 use Rattle.model.specs.Formed.{wordsFit, headerWhole, formatKnown, stateKnown, pendingWhenAsked, namesFew, functorKnown, regionEnd, restZero, regionRight, regionsRight, pairRight, recordsRight, wellFormed}
 use Rattle.laws.proofs.Tests.{true-of, of-true, nth, all-of, of-lt, le-of, eq-of}

@@ -1,12 +1,11 @@
 // Whether lent words are a well formed image: a function for each condition of document 01, named as the model's test that it
 // decides, and `check`, which is all of them. No test of many records stops early: an image is nearly always well formed.
 ghost use mathlib.Core.Path.{_≡_};
-ghost use mathlib.Core.List.{[], _∷_};
 ghost use mathlib.Core.Bool.{cond, _&&_};
-ghost use Prim.Native.Nat.{ℕ, _+_, _*_, _≤_, _<_};
+ghost use Prim.Native.Nat.{_+_, _*_, _≤_, _<_};
 ghost use lib.ListN.{length, take, drop};
 ghost use lib.Dec.{eqb, leb, ltb};
-ghost use Rattle.model.specs.Lists.{isZero, allOf, all, allFrom};
+ghost use Rattle.model.specs.Lists.{isZero, all, allFrom};
 ghost use Rattle.model.specs.Format.{wordEnd, headerWords, idle, variable};
 ghost use Rattle.model.specs.Table.{entryAt, isAt};
 ghost use Rattle.model.specs.Image.{offset, capacity, count, pairOf, recordsOf, table};
@@ -230,38 +229,19 @@ fn regions_laid(image: &[u32]) -> bool
     requires { ⌜ headerWords ≤ length (now image) ⌝ }
     ensures { λ r. ⌜ r ≡ regionsLaid (now (image .entry)) ⌝ }
 {
+    let fields_at = region_end(image, ENTRIES, image::ENTRY_WIDTH);
+    let bounds_at = region_end(image, FIELDS, image::FIELD_WIDTH);
+    let visited_at = region_end(image, BOUNDS, image::BOUND_WIDTH);
+    let pending_at = region_end(image, VISITED, image::VISITED_WIDTH);
+    let equals_at = region_end(image, PENDING, image::PENDING_WIDTH);
+    let end = region_end(image, EQUALS, image::EQUALS_WIDTH);
     region_laid(image, ENTRIES, ENTRIES_MOST, image::HEADER_WORDS)
-        & region_laid(
-            image,
-            FIELDS,
-            FIELDS_MOST,
-            region_end(image, ENTRIES, image::ENTRY_WIDTH),
-        )
-        & region_laid(
-            image,
-            BOUNDS,
-            BOUNDS_MOST,
-            region_end(image, FIELDS, image::FIELD_WIDTH),
-        )
-        & region_laid(
-            image,
-            VISITED,
-            VISITED_MOST,
-            region_end(image, BOUNDS, image::BOUND_WIDTH),
-        )
-        & region_laid(
-            image,
-            PENDING,
-            PENDING_MOST,
-            region_end(image, VISITED, image::VISITED_WIDTH),
-        )
-        & region_laid(
-            image,
-            EQUALS,
-            EQUALS_MOST,
-            region_end(image, PENDING, image::PENDING_WIDTH),
-        )
-        & (region_end(image, EQUALS, image::EQUALS_WIDTH) == image.len())
+        & region_laid(image, FIELDS, FIELDS_MOST, fields_at)
+        & region_laid(image, BOUNDS, BOUNDS_MOST, bounds_at)
+        & region_laid(image, VISITED, VISITED_MOST, visited_at)
+        & region_laid(image, PENDING, PENDING_MOST, pending_at)
+        & region_laid(image, EQUALS, EQUALS_MOST, equals_at)
+        & (end == image.len())
 }
 
 // Whether all words of region k past its count are 0.

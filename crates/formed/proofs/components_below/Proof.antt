@@ -1,10 +1,8 @@
 -- `formed::components_below` meets its contract. Assumes nothing.
 use mathlib.Core.Path.{_∙_}
-use mathlib.Core.List.{[], _∷_}
 use mathlib.Core.Bool.{_||_, _&&_}
 use lib.Dec.{ltb}
 use borrow.Author.Needs.{needs}
-use Rattle.model.specs.Lists.{_⇒_}
 use Rattle.model.specs.Formed.{oneComponent, twoComponents, hasDynamicType, componentsBelow}
 use Rattle.formed.specs.Grouped.{entryTold}
 use Rattle.formed.proofs.Tested.{joined-is, when-is}
@@ -26,10 +24,9 @@ returns c =
     let i = c .before .before .before .before .before .before .args .i in
     let w = c .before .before .before .before .before .before .args .e in
     let e = entryTold w in
-    let some = oneComponent e || twoComponents e in
     rw (c .before .before .before .before .one-component .ensures, c .before .before .before .before .before .two-components .ensures, c .before .has-dynamic-type .ensures)
-    ((λ j. when-is some (ltb (w .x) i) j && when-is (twoComponents e) (ltb (w .y) i) j && when-is (hasDynamicType e) (ltb (w .z) i) j)
-    ∙ joined-is (some ⇒ ltb (w .x) i) ((twoComponents e ⇒ ltb (w .y) i) ∷ (hasDynamicType e ⇒ ltb (w .z) i) ∷ []))
+    ((λ j. when-is (oneComponent e || twoComponents e) (ltb (w .x) i) j && when-is (twoComponents e) (ltb (w .y) i) j && when-is (hasDynamicType e) (ltb (w .z) i) j)
+    ∙ joined-is _ _)
 
 pub components-below-spec : {M : Type 1} → statement M
 components-below-spec =

@@ -1,11 +1,6 @@
 -- `formed::entry_right` meets its contract. Assumes nothing.
-use mathlib.Core.Path.{ap, _∙_}
-use mathlib.Core.List.{[], _∷_}
 use borrow.Author.Needs.{needs}
-use Rattle.model.specs.Table.{Entry}
-use Rattle.model.specs.Formed.{kindKnown, primitiveKnown, componentsBelow, unusedZero, flagsKnown, spreadRight, negationKnown, fieldsRight, entryRight}
-use Rattle.image.specs.Shown.{storeOf, entriesOf, fieldsIn}
-use Rattle.formed.specs.Grouped.{entryTold}
+use Rattle.model.specs.Formed.{entryRight}
 use Rattle.formed.proofs.Tested.{joined-is}
 use Rattle.formed.proofs.entry_right.Statement.{statement}
 use Rattle.formed.proofs.entry_right.Tie as tie
@@ -40,13 +35,8 @@ attrset-right-requires c κs = search needs
 returns : tie.Need-returns
 unfolding entryRight
 returns c =
-    let w = c .before .before .before .before .before .before .before .before .before .before .args .image .now in
-    let i = c .before .before .before .before .before .before .before .before .before .before .args .i in
-    let es = entriesOf w in
-    let fs = fieldsIn w in
-    let names = storeOf w .names in
-    let e = entryTold (c .before .before .before .before .before .before .before .before .entry-words .result) in
     rw (
+      ← c .before .before .before .before .before .before .before .before .entry-words .ensures,
       c .before .before .before .before .before .before .before .kind-known .ensures,
       c .before .before .before .before .before .before .primitive-known .ensures,
       c .before .before .before .before .before .components-below .ensures,
@@ -56,9 +46,7 @@ returns c =
       c .before .negation-known .ensures,
       c .attrset-right .ensures,
     )
-    (joined-is (kindKnown e)
-    (primitiveKnown e ∷ componentsBelow i e ∷ unusedZero e ∷ flagsKnown e ∷ spreadRight es e ∷ negationKnown es e ∷ fieldsRight fs names i e ∷ [])
-    ∙ ap (λ (r : Entry). entryRight es fs names i r) (c .before .before .before .before .before .before .before .before .entry-words .ensures))
+    (joined-is _ _)
 
 pub entry-right-spec : {M : Type 1} → statement M
 entry-right-spec =

@@ -1,6 +1,4 @@
 -- `formed::header_right` meets its contract. Assumes nothing.
-use mathlib.Core.List.{[], _∷_}
-use lib.ListN.{length}
 use borrow.Author.Tests.{le-leb, lt-leb}
 use borrow.Author.Needs.{needs}
 use Rattle.model.specs.Lists.{allOf}
@@ -39,11 +37,9 @@ shared-slice-read-result-5 : tie.Need-shared-slice-read-result-5
 shared-slice-read-result-5 c = search needs
 
 returns-2 : tie.Need-returns-2
-unfolding headerRight headerWhole formatKnown stateKnown pendingWhenAsked namesFew functorKnown allOf
+unfolding headerRight headerWhole formatKnown stateKnown pendingWhenAsked namesFew functorKnown
 returns-2 c =
-    let w = c .before .before .before .before .before .before .before .before .before .before .args .image .now in
-    rw (le-leb 27 (length w) (c .before .before .before .before .before .before .before .before .if1 .left), c .before .before .before .pending-when-asked .ensures)
-    (joined-is (formatKnown w) (stateKnown w ∷ pendingWhenAsked w ∷ namesFew w ∷ functorKnown w ∷ []))
+    rw (le-leb _ _ (c .before .before .before .before .before .before .before .before .if1 .left), c .before .before .before .pending-when-asked .ensures) (joined-is _ _)
 
 pub header-right-spec : {M : Type 1} → statement M
 header-right-spec =

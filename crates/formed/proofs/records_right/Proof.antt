@@ -1,10 +1,7 @@
 -- `formed::records_right` meets its contract. Assumes nothing.
-use mathlib.Core.List.{[], _∷_}
 use borrow.Author.Needs.{needs}
-use Rattle.model.specs.Lists.{all, allFrom}
 use Rattle.model.specs.Image.{table}
-use Rattle.model.specs.Formed.{pairRight, breakRight, entryRight, fieldRight, boundRight, recordsRight}
-use Rattle.image.specs.Shown.{storeOf, entriesOf, fieldsIn, boundsAll, visitedIn, pendingIn, equalsIn}
+use Rattle.model.specs.Formed.{recordsRight}
 use Rattle.formed.proofs.Tested.{joined-is}
 use Rattle.formed.proofs.records_right.Statement.{statement}
 use Rattle.formed.proofs.records_right.Tie as tie
@@ -33,8 +30,6 @@ pairs-right-requires-3 c κs = search needs
 returns : tie.Need-returns
 unfolding recordsRight table
 returns c =
-    let w = c .before .before .before .before .before .before .before .before .args .image .now in
-    let es = entriesOf w in
     rw (
       c .before .before .before .before .before .before .break-right .ensures,
       c .before .before .before .before .before .entries-right .ensures,
@@ -44,14 +39,7 @@ returns c =
       c .before .pairs-right2 .ensures,
       c .pairs-right3 .ensures,
     )
-    (joined-is (breakRight (storeOf w))
-    (allFrom (entryRight es (fieldsIn w) (storeOf w .names)) 0 es
-    ∷ all (fieldRight es) (fieldsIn w)
-    ∷ all (boundRight es) (boundsAll w)
-    ∷ all (pairRight es) (visitedIn w)
-    ∷ all (pairRight es) (pendingIn w)
-    ∷ all (pairRight es) (equalsIn w)
-    ∷ []))
+    (joined-is _ _)
 
 pub records-right-spec : {M : Type 1} → statement M
 records-right-spec =

@@ -1,8 +1,5 @@
 -- `formed::region_laid` meets its contract. Assumes nothing.
-use mathlib.Core.List.{[], _∷_}
-use lib.Dec.{eqb, leb}
 use borrow.Author.Needs.{needs}
-use Rattle.model.specs.Lists.{allOf}
 use Rattle.model.specs.Image.{offset, capacity, count}
 use Rattle.formed.specs.Grouped.{regionLaid}
 use Rattle.formed.proofs.Tested.{joined-is}
@@ -22,12 +19,9 @@ count-requires : tie.Need-count-requires
 count-requires c κs = search needs
 
 returns : tie.Need-returns
-unfolding regionLaid allOf
+unfolding regionLaid
 returns c =
-    let a = c .before .before .before .before .before .args in
-    let w = a .image .now in
-    rw (c .before .before .before .capacity .ensures .0, c .before .before .offset .ensures .0, c .before .wide .ensures .0, c .count .ensures .0)
-    (joined-is (eqb (offset w (a .k)) (a .at)) (leb (capacity w (a .k)) (a .most) ∷ leb (count w (a .k)) (capacity w (a .k)) ∷ []))
+    rw (c .before .before .before .capacity .ensures .0, c .before .before .offset .ensures .0, c .before .wide .ensures .0, c .count .ensures .0) (joined-is _ _)
 
 pub region-laid-spec : {M : Type 1} → statement M
 region-laid-spec = tie.close (tie.spec capacity-requires offset-requires wide-requires count-requires returns)

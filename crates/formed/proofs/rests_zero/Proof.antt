@@ -1,7 +1,5 @@
 -- `formed::rests_zero` meets its contract. Assumes nothing.
-use mathlib.Core.List.{[], _∷_}
 use borrow.Author.Needs.{needs}
-use Rattle.model.specs.Formed.{restZero}
 use Rattle.formed.specs.Grouped.{restsZero}
 use Rattle.formed.proofs.Tested.{joined-is}
 use Rattle.formed.proofs.rests_zero.Statement.{statement}
@@ -28,7 +26,6 @@ rest-zero-requires-6 c κs = search needs
 returns : tie.Need-returns
 unfolding restsZero
 returns c =
-    let w = c .before .before .before .before .before .before .before .args .image .now in
     rw (
       c .before .before .before .before .before .rest-zero .ensures,
       c .before .before .before .before .rest-zero2 .ensures,
@@ -37,7 +34,7 @@ returns c =
       c .before .rest-zero5 .ensures,
       c .rest-zero6 .ensures,
     )
-    (joined-is (restZero w 1 7) (restZero w 2 3 ∷ restZero w 3 3 ∷ restZero w 4 2 ∷ restZero w 5 2 ∷ restZero w 6 2 ∷ []))
+    (joined-is _ _)
 
 pub rests-zero-spec : {M : Type 1} → statement M
 rests-zero-spec =
