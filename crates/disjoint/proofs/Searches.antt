@@ -1,5 +1,5 @@
 -- The three searches: n + 1 rounds suffice for entry n, and what each is for an entry as it is read out. Assumes nothing.
-use Prim.Native.Nat.{ℕ, zero, suc, _<_}
+use Prim.Native.Nat.{ℕ, suc, _<_}
 use native.Mathlib.Omega.{arith}
 use mathlib.Core.Path.{_≡_, refl, sym, ap, ap₂, _∙_}
 use mathlib.Core.List.{List, [], _∷_}
@@ -169,9 +169,9 @@ module _ (s : Store) (good : Good s) where
       enough (λ again n. holdsBy again (entryAt (s .entries) n)) (λ r. holdsWithin r (s .entries)) (length (s .entries))
       (λ r n. refl)
       (λ p q n lt h.
-        let e : Entry = entryAt (s .entries) n in
-        let r : Reads e (readOut e) = reads s good n lt in
-        holds-read p e r ∙ holds-smaller p q n h (readOut e) (under s good n lt (readOut e) refl) ∙ sym (holds-read q e r))
+      let e : Entry = entryAt (s .entries) n in
+      let r : Reads e (readOut e) = reads s good n lt in
+      holds-read p e r ∙ holds-smaller p q n h (readOut e) (under s good n lt (readOut e) refl) ∙ sym (holds-read q e r))
 
   pub member-rounds : (m rounds i : ℕ) → i < length (s .entries) → i < rounds
       → memberWithin rounds (s .entries) m i ≡ (eqb i m || memberBy (λ x. unionMember (s .entries) m x) (entryAt (s .entries) i))
@@ -180,10 +180,10 @@ module _ (s : Store) (good : Good s) where
       enough (λ again n. eqb n m || memberBy again (entryAt (s .entries) n)) (λ r. memberWithin r (s .entries) m) (length (s .entries))
       (λ r n. refl)
       (λ p q n lt h.
-        let e : Entry = entryAt (s .entries) n in
-        let r : Reads e (readOut e) = reads s good n lt in
-        ap (λ (b : Bool). eqb n m || b)
-        (member-read p e r ∙ member-smaller p q n h (readOut e) (under s good n lt (readOut e) refl) ∙ sym (member-read q e r)))
+      let e : Entry = entryAt (s .entries) n in
+      let r : Reads e (readOut e) = reads s good n lt in
+      ap (λ (b : Bool). eqb n m || b)
+      (member-read p e r ∙ member-smaller p q n h (readOut e) (under s good n lt (readOut e) refl) ∙ sym (member-read q e r)))
 
   pub disjoint-rounds : (sup : Entry) (rounds i : ℕ) → i < length (s .entries) → i < rounds
       → disjointWithin rounds s sup i ≡ disjointBy (λ x. disjointFromSup s sup x) s sup (entryAt (s .entries) i)
@@ -192,11 +192,11 @@ module _ (s : Store) (good : Good s) where
       enough (λ again n. disjointBy again s sup (entryAt (s .entries) n)) (λ r. disjointWithin r s sup) (length (s .entries))
       (λ r n. refl)
       (λ p q n lt h.
-        let e : Entry = entryAt (s .entries) n in
-        let r : Reads e (readOut e) = reads s good n lt in
-        disjoint-read p e s sup r
-        ∙ inter-smaller p q n h (disjoint s e sup) (readOut e) (under s good n lt (readOut e) refl)
-        ∙ sym (disjoint-read q e s sup r))
+      let e : Entry = entryAt (s .entries) n in
+      let r : Reads e (readOut e) = reads s good n lt in
+      disjoint-read p e s sup r
+      ∙ inter-smaller p q n h (disjoint s e sup) (readOut e) (under s good n lt (readOut e) refl)
+      ∙ sym (disjoint-read q e s sup r))
 
   -- a call of each, by the entry that it reads
   module _ (i : ℕ) (lt : i < length (s .entries)) where

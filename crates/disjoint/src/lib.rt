@@ -3,7 +3,7 @@
 use model::Attrset;
 use model::Entry;
 ghost use mathlib.Core.Path.{_≡_};
-ghost use Prim.Native.Nat.{ℕ, _+_, _<_, _≤_};
+ghost use Prim.Native.Nat.{_+_, _<_, _≤_};
 ghost use lib.ListN.{length};
 ghost use Rattle.model.specs.Table.{entryAt};
 ghost use Rattle.model.specs.Shapes.{hasFunctor, primitivesDisjoint, lacksField, underNumber, holdsVariable, unionMember, disjointFromSup};
@@ -175,7 +175,7 @@ fn attrsets_disjoint(image: &[u32], a: Attrset, b: Attrset) -> bool
 }
 
 // Int or Float under Number.
-fn is_under_number(p: u32, q: u32) -> bool
+fn is_subtype_of(p: u32, q: u32) -> bool
     ensures { λ r. ⌜ r ≡ underNumber p q ⌝ }
 {
     if q == NUMBER {
@@ -194,10 +194,10 @@ fn primitives_disjoint(p: u32, q: u32) -> bool
     if p == q {
         return false;
     }
-    if is_under_number(p, q) {
+    if is_subtype_of(p, q) {
         return false;
     }
-    !is_under_number(q, p)
+    !is_subtype_of(q, p)
 }
 
 // The shape of an entry that was read out.
@@ -218,7 +218,7 @@ fn shape_of(e: Entry) -> Shape
 }
 
 // Whether two shapes share no value: different constructors do not, but a callable attrset may be a lambda.
-fn shapes_disjoint(image: &[u32], a: Shape, b: Shape) -> bool
+fn are_shapes_disjoint(image: &[u32], a: Shape, b: Shape) -> bool
     requires { ⌜ Laid (now image) ⌝ }
     requires { ⌜ ShapeInside (fieldsIn (now image)) a ⌝ }
     requires { ⌜ ShapeInside (fieldsIn (now image)) b ⌝ }
@@ -267,7 +267,7 @@ pub fn disjoint(image: &[u32], a: u32, b: u32) -> bool
 {
     let sub = shape_of(image::entry(image, a));
     let sup = shape_of(image::entry(image, b));
-    shapes_disjoint(image, sub, sup)
+    are_shapes_disjoint(image, sub, sup)
 }
 
 // Whether entry a could be under entry b by its constructor: Int and Number have the same one.

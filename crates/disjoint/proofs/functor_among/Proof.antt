@@ -1,4 +1,4 @@
-use mathlib.Core.Path.{_≡_, sym, ap, _∙_}
+use mathlib.Core.Path.{_∙_}
 use denote.Ref.{now}
 use Rattle.disjoint.proofs.Fields.{unset, set}
 use borrow.Author.Needs.{needs}

@@ -1,4 +1,4 @@
-use mathlib.Core.Path.{_≡_, sym, ap, _∙_}
+use mathlib.Core.Path.{sym, _∙_}
 use Rattle.disjoint.proofs.Shapes.{shape-inside, functor-at, functor-none}
 use borrow.Author.Needs.{needs}
 use Rattle.disjoint.proofs.functor_of.Statement.{statement}

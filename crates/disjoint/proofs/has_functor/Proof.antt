@@ -1,4 +1,4 @@
-use mathlib.Core.Path.{_≡_, sym, ap, _∙_}
+use mathlib.Core.Path.{ap, _∙_}
 use Rattle.disjoint.specs.Fields.{isFound}
 use Rattle.disjoint.proofs.Fields.{functor-has}
 use Rattle.disjoint.proofs.Views.{inside}

@@ -7,7 +7,7 @@ use lib.ListN.{length}
 use Rattle.model.specs.Lists.{any}
 use Rattle.model.specs.Shapes.{lacksField}
 use Rattle.image.specs.Shown.{fieldsIn}
-use Rattle.disjoint.specs.Fields.{Inside, fieldsHeld}
+use Rattle.disjoint.specs.Fields.{fieldsHeld}
 use Rattle.disjoint.proofs.Fields.{fields-few, rest, stop, go-on, nothing}
 use Rattle.disjoint.proofs.Shapes.{lacks-from}
 use Rattle.disjoint.proofs.lacks_some.Statement.{statement}

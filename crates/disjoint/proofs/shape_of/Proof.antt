@@ -1,4 +1,4 @@
-use mathlib.Core.Path.{_≡_, sym, ap, _∙_}
+use mathlib.Core.Path.{sym, ap}
 use Rattle.disjoint.specs.Shapes.{shapeOf}
 use borrow.Author.Needs.{needs}
 use Rattle.disjoint.proofs.shape_of.Statement.{statement}

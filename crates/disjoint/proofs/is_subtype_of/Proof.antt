@@ -1,8 +1,8 @@
 use Rattle.disjoint.proofs.Shapes.{int-under, float-under, not-under}
-use Rattle.disjoint.proofs.is_under_number.Statement.{statement}
-use Rattle.disjoint.proofs.is_under_number.Tie as tie
-use Rattle.disjoint.proofs.is_under_number.Reads as reads
-use Rattle.disjoint.proofs.is_under_number.Lts as lts
+use Rattle.disjoint.proofs.is_subtype_of.Statement.{statement}
+use Rattle.disjoint.proofs.is_subtype_of.Tie as tie
+use Rattle.disjoint.proofs.is_subtype_of.Reads as reads
+use Rattle.disjoint.proofs.is_subtype_of.Lts as lts
 
 -- src/lib.rt:186:13
 returns : tie.Need-returns
@@ -16,5 +16,5 @@ returns-2 c = float-under _ _ (c .before .if1 .taken) (c .if2 .left)
 returns-3 : tie.Need-returns-3
 returns-3 c = not-under _ _ (c .if1 .left)
 
-pub is-under-number-spec : {M : Type 1} → statement M
-is-under-number-spec = tie.close (tie.spec returns returns-2 returns-3)
+pub is-subtype-of-spec : {M : Type 1} → statement M
+is-subtype-of-spec = tie.close (tie.spec returns returns-2 returns-3)

@@ -1,11 +1,11 @@
-use mathlib.Core.Path.{_≡_, sym, ap, _∙_}
+use mathlib.Core.Path.{ap, _∙_}
 use mathlib.Core.Bool.{not}
 use Rattle.disjoint.proofs.Shapes.{shapes-are, attrset-inside}
 use borrow.Author.Needs.{needs}
-use Rattle.disjoint.proofs.shapes_disjoint.Statement.{statement}
-use Rattle.disjoint.proofs.shapes_disjoint.Tie as tie
-use Rattle.disjoint.proofs.shapes_disjoint.Reads as reads
-use Rattle.disjoint.proofs.shapes_disjoint.Lts as lts
+use Rattle.disjoint.proofs.are_shapes_disjoint.Statement.{statement}
+use Rattle.disjoint.proofs.are_shapes_disjoint.Tie as tie
+use Rattle.disjoint.proofs.are_shapes_disjoint.Reads as reads
+use Rattle.disjoint.proofs.are_shapes_disjoint.Lts as lts
 use Rattle.disjoint.proofs.attrsets_disjoint.Reads as attrsets-disjoint-reads
 use Rattle.disjoint.proofs.is_callable.Reads as is-callable-reads
 use Rattle.disjoint.proofs.primitives_disjoint.Reads as primitives-disjoint-reads
@@ -216,8 +216,8 @@ returns-20 c = search needs
 returns-21 : tie.Need-returns-21
 returns-21 c = search needs
 
-pub shapes-disjoint-spec : {M : Type 1} → statement M
-shapes-disjoint-spec =
+pub are-shapes-disjoint-spec : {M : Type 1} → statement M
+are-shapes-disjoint-spec =
     tie.close
     (tie.spec
     enum-known-a
