@@ -1,3 +1,4 @@
+use native.Mathlib.Omega.{arith}
 use mathlib.Core.Path.{ap, _∙_}
 use Rattle.disjoint.specs.Fields.{isFound}
 use Rattle.disjoint.specs.Shapes.{callable}
@@ -11,7 +12,7 @@ use Rattle.disjoint.proofs.is_found.Reads as is-found-reads
 
 -- src/lib.rt:116:14
 functor-among-requires : tie.Need-functor-among-requires
-functor-among-requires c κs = search needs
+functor-among-requires c κs = let p = c .before .pre in (p .0, omega (arith, p .1))
 
 -- src/lib.rt:116:5
 is-found-requires : tie.Need-is-found-requires
