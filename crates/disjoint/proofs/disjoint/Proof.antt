@@ -9,29 +9,23 @@ use Rattle.disjoint.proofs.shape_of.Reads as shape-of-reads
 use Rattle.disjoint.proofs.are_shapes_disjoint.Reads as are-shapes-disjoint-reads
 use Rattle.image.proofs.entry.Reads as entry-reads
 
--- src/lib.rt:268:24
 entry-requires : tie.Need-entry-requires
 entry-requires c κs = search needs
 
--- src/lib.rt:268:9
 shape-of-requires : tie.Need-shape-of-requires
 shape-of-requires c κs = search needs
 
--- src/lib.rt:269:24
 entry-requires-2 : tie.Need-entry-requires-2
 entry-requires-2 c κs = search needs
 
--- src/lib.rt:269:9
 shape-of-requires-2 : tie.Need-shape-of-requires-2
 shape-of-requires-2 c κs = search needs
 
--- src/lib.rt:270:5
 are-shapes-disjoint-requires : tie.Need-are-shapes-disjoint-requires
 are-shapes-disjoint-requires c κs =
     let p = c .before .before .before .before .before .pre in
     (p .0, (rw (c .before .before .shape-of .ensures) (shape-inside _ (p .1 .0) _ (p .1 .1 .0) _ (c .before .before .before .entry .ensures)), rw (c .shape-of2 .ensures) (shape-inside _ (p .1 .0) _ (p .1 .1 .1) _ (c .before .entry2 .ensures))))
 
--- src/lib.rt:261:1
 returns : tie.Need-returns
 returns c =
     let p = c .before .before .before .before .before .before .pre in

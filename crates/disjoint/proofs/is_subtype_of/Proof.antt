@@ -4,15 +4,12 @@ use Rattle.disjoint.proofs.is_subtype_of.Tie as tie
 use Rattle.disjoint.proofs.is_subtype_of.Reads as reads
 use Rattle.disjoint.proofs.is_subtype_of.Lts as lts
 
--- src/lib.rt:186:13
 returns : tie.Need-returns
 returns c = int-under _ _ (c .before .if1 .taken) (c .if2 .taken)
 
--- src/lib.rt:188:9
 returns-2 : tie.Need-returns-2
 returns-2 c = float-under _ _ (c .before .if1 .taken) (c .if2 .left)
 
--- src/lib.rt:181:1
 returns-3 : tie.Need-returns-3
 returns-3 c = not-under _ _ (c .if1 .left)
 

@@ -9,27 +9,22 @@ use Rattle.disjoint.proofs.primitives_disjoint.Reads as reads
 use Rattle.disjoint.proofs.primitives_disjoint.Lts as lts
 use Rattle.disjoint.proofs.is_subtype_of.Reads as is-subtype-of-reads
 
--- src/lib.rt:198:9
 returns : tie.Need-returns
 unfolding primitivesDisjoint
 returns c = rw (eq-eqb _ _ (c .if1 .taken))
 
--- src/lib.rt:200:8
 is-subtype-of-requires : tie.Need-is-subtype-of-requires
 is-subtype-of-requires c κs = search needs
 
--- src/lib.rt:201:9
 returns-2 : tie.Need-returns-2
 unfolding primitivesDisjoint
 returns-2 c =
     let z : underNumber (c .before .before .before .args .p) (c .before .before .before .args .q) ≡ true = sym (c .before .is-subtype-of .ensures) ∙ c .if2 .taken in
     rw (ne-eqb _ _ (c .before .before .if1 .left), z)
 
--- src/lib.rt:203:6
 is-subtype-of-requires-2 : tie.Need-is-subtype-of-requires-2
 is-subtype-of-requires-2 c κs = search needs
 
--- src/lib.rt:194:1
 returns-3 : tie.Need-returns-3
 unfolding primitivesDisjoint
 returns-3 c =
