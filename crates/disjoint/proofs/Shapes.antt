@@ -1,18 +1,17 @@
 -- Disjointness by shape is the model's, and the tests of `compatible`. Assumes nothing.
 use Prim.Native.Nat.{ℕ, _+_, _≤_, _<_}
-use native.Mathlib.Omega.{arith}
 use mathlib.Core.Path.{_≡_, refl, sym, ap, _∙_}
 use mathlib.Core.List.{List, [], _∷_}
-use mathlib.Core.Bool.{Bool, true, false, not, cond, _&&_, _||_}
+use mathlib.Core.Bool.{Bool, true, false, not, _&&_, _||_}
 use lib.ListN.{length}
 use lib.Dec.{eqb}
 use types.Run.{OneOf, miss}
 use denote.Enum.Declared.{tagOf}
 use borrow.Author.Tests.{eq-eqb, ne-eqb, eqb-true}
-use Rattle.model.specs.Lists.{isZero, isSome, any}
+use Rattle.model.specs.Lists.{isSome, any}
 use Rattle.model.specs.Format.{int, float, number, primitive, lambda, attrset, named}
-use Rattle.model.specs.Table.{Entry, Field, Store, entryAt, is, isOpen}
-use Rattle.model.specs.Shapes.{fieldsOf, functorOf, hasFunctor, underNumber, primitivesDisjoint, lacksField, closedLacks, attrsetsDisjoint, hasShape, sameShapeDisjoint, disjoint, compatible, fieldNamed}
+use Rattle.model.specs.Table.{Entry, Field, Store, entryAt, is}
+use Rattle.model.specs.Shapes.{fieldsOf, functorOf, hasFunctor, underNumber, lacksField, closedLacks, attrsetsDisjoint, hasShape, sameShapeDisjoint, disjoint, compatible}
 use Rattle.model.specs.Calls.{readOut}
 use Rattle.model.specs.declared.Attrset.{Attrset}
 use Rattle.model.specs.declared.Entry.{Entry as EntryOut}
@@ -20,7 +19,7 @@ use Rattle.model.specs.declared.Entry.the-variants as E
 use Rattle.model.proofs.Entry.{the-type}
 use Rattle.laws.specs.Good.{Good}
 use Rattle.disjoint.specs.declared.Found.{Found}
-use Rattle.disjoint.specs.declared.Found.the-variants.{At, Nothing}
+use Rattle.disjoint.specs.declared.Found.the-variants.{Nothing}
 use Rattle.disjoint.specs.declared.Shape.{Shape}
 use Rattle.disjoint.specs.declared.Shape.the-variants as S
 use Rattle.disjoint.specs.Fields.{Inside, fieldsHeld, numberNamed, functorNumber, functorRecord, isFound}

@@ -1,14 +1,11 @@
 -- An entry read out, by its kind; what a good store says of the components and fields of one. Assumes nothing.
 use Prim.Native.Nat.{ℕ, zero, suc, _+_, _≤_, _<_}
 use native.Mathlib.Omega.{arith}
-use mathlib.Core.Path.{_≡_, refl, sym, ap, _∙_, subst}
-use mathlib.Core.List.{List, [], _∷_}
-use mathlib.Core.Bool.{Bool, true, false, _||_}
+use mathlib.Core.Path.{_≡_, refl}
 use lib.ListN.{length}
-use lib.Dec.{T, ltb, leb}
-use Rattle.model.specs.Lists.{_⇒_}
+use lib.Dec.{T}
 use Rattle.model.specs.Format.{attrset, union}
-use Rattle.model.specs.Table.{Entry, Field, Store, entryAt, is, isOpen}
+use Rattle.model.specs.Table.{Entry, Store, entryAt, is, isOpen}
 use Rattle.model.specs.Formed.{kindKnown, componentsBelow, oneComponent, twoComponents, fieldsRight}
 use Rattle.model.specs.Calls.{readOut, dynamicOf}
 use Rattle.model.specs.declared.Attrset.{Attrset}

@@ -3,7 +3,7 @@
 use model::Attrset;
 use model::Entry;
 ghost use mathlib.Core.Path.{_≡_};
-ghost use Prim.Native.Nat.{ℕ, _+_, _<_, _≤_};
+ghost use Prim.Native.Nat.{_+_, _<_, _≤_};
 ghost use lib.ListN.{length};
 ghost use Rattle.model.specs.Table.{entryAt};
 ghost use Rattle.model.specs.Shapes.{hasFunctor, primitivesDisjoint, lacksField, underNumber, holdsVariable, unionMember, disjointFromSup};
@@ -44,6 +44,7 @@ pub enum Shape {
     Opaque,
 }
 
+// Whether there is one.
 fn is_found(f: Found) -> bool
     ensures { λ r. ⌜ r ≡ isFound f ⌝ }
 {
@@ -116,7 +117,7 @@ fn is_callable(image: &[u32], a: Attrset) -> bool
     is_found(functor_among(image, a.first, a.count))
 }
 
-// Field record j is not optional, and no field of a has its name.
+// Whether field record j is not optional, and no field of a has its name.
 fn lacks_field(image: &[u32], a: Attrset, j: u32) -> bool
     requires { ⌜ Laid (now image) ⌝ }
     requires { ⌜ Inside (fieldsIn (now image)) a ⌝ }
@@ -130,7 +131,7 @@ fn lacks_field(image: &[u32], a: Attrset, j: u32) -> bool
     !is_found(field_named(image, a.first, a.count, name))
 }
 
-// Some field of b is not optional and no field of a.
+// Whether some field of b is not optional and no field of a.
 fn lacks_some(image: &[u32], a: Attrset, b: Attrset) -> bool
     requires { ⌜ Laid (now image) ⌝ }
     requires { ⌜ Inside (fieldsIn (now image)) a ⌝ }
@@ -148,7 +149,7 @@ fn lacks_some(image: &[u32], a: Attrset, b: Attrset) -> bool
     false
 }
 
-// a is closed, and lacks a field that b requires.
+// Whether a is closed, and lacks a field that b requires.
 fn closed_lacks(image: &[u32], a: Attrset, b: Attrset) -> bool
     requires { ⌜ Laid (now image) ⌝ }
     requires { ⌜ Inside (fieldsIn (now image)) a ⌝ }
@@ -161,7 +162,7 @@ fn closed_lacks(image: &[u32], a: Attrset, b: Attrset) -> bool
     lacks_some(image, a, b)
 }
 
-// One is closed, and lacks a field that the other requires.
+// Whether one is closed, and lacks a field that the other requires.
 fn attrsets_disjoint(image: &[u32], a: Attrset, b: Attrset) -> bool
     requires { ⌜ Laid (now image) ⌝ }
     requires { ⌜ Inside (fieldsIn (now image)) a ⌝ }
@@ -174,8 +175,8 @@ fn attrsets_disjoint(image: &[u32], a: Attrset, b: Attrset) -> bool
     closed_lacks(image, b, a)
 }
 
-// Int or Float under Number.
-fn is_under_number(p: u32, q: u32) -> bool
+// Whether p is a proper subtype of q: Int or Float under Number.
+fn is_subtype_of(p: u32, q: u32) -> bool
     ensures { λ r. ⌜ r ≡ underNumber p q ⌝ }
 {
     if q == NUMBER {
@@ -187,17 +188,17 @@ fn is_under_number(p: u32, q: u32) -> bool
     false
 }
 
-// Two primitives, neither under the other.
+// Whether two primitives are unequal, and neither is a subtype of the other.
 fn primitives_disjoint(p: u32, q: u32) -> bool
     ensures { λ r. ⌜ r ≡ primitivesDisjoint p q ⌝ }
 {
     if p == q {
         return false;
     }
-    if is_under_number(p, q) {
+    if is_subtype_of(p, q) {
         return false;
     }
-    !is_under_number(q, p)
+    !is_subtype_of(q, p)
 }
 
 // The shape of an entry that was read out.
@@ -218,7 +219,7 @@ fn shape_of(e: Entry) -> Shape
 }
 
 // Whether two shapes share no value: different constructors do not, but a callable attrset may be a lambda.
-fn shapes_disjoint(image: &[u32], a: Shape, b: Shape) -> bool
+fn are_shapes_disjoint(image: &[u32], a: Shape, b: Shape) -> bool
     requires { ⌜ Laid (now image) ⌝ }
     requires { ⌜ ShapeInside (fieldsIn (now image)) a ⌝ }
     requires { ⌜ ShapeInside (fieldsIn (now image)) b ⌝ }
@@ -267,10 +268,11 @@ pub fn disjoint(image: &[u32], a: u32, b: u32) -> bool
 {
     let sub = shape_of(image::entry(image, a));
     let sup = shape_of(image::entry(image, b));
-    shapes_disjoint(image, sub, sup)
+    are_shapes_disjoint(image, sub, sup)
 }
 
-// Whether entry a could be under entry b by its constructor: Int and Number have the same one.
+// Whether entry a could be under entry b: it has the same constructor (so Int under Number), or b is named, or b is a
+// lambda and a has a field `__functor`.
 pub fn compatible(image: &[u32], a: u32, b: u32) -> bool
     requires { ⌜ Laid (now image) ⌝ }
     requires { ⌜ Good (storeOf (now image)) ⌝ }

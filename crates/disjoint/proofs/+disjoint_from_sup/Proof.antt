@@ -1,5 +1,4 @@
-use mathlib.Core.Path.{_≡_, sym, ap, _∙_}
-use mathlib.Core.Bool.{true, false}
+use mathlib.Core.Path.{sym, _∙_}
 use native.Mathlib.Omega.{arith}
 use borrow.Author.Needs.{needs}
 use Rattle.disjoint.proofs.Views.{under}
@@ -34,7 +33,6 @@ disjoint-from-sup-below t =
     (falls 1 disjoint-from-sup-kinds.ps _<_ μ-disjoint-from-sup t)
     disjoint-from-sup.Pre
 
--- src/lib.rt:348:9
 disjoint-from-sup-entry-requires : (t : ℕ) → disjoint-from-sup-lts.Need-entry-requires (
   entry-reads.Asked,
   entry-reads.Learnt,
@@ -45,7 +43,6 @@ disjoint-from-sup-entry-requires : (t : ℕ) → disjoint-from-sup-lts.Need-entr
 ) (disjoint-from-sup-at t) disjoint-from-sup.Post
 disjoint-from-sup-entry-requires t c κs = let p = c .before .pre in (p .1 .0, p .1 .1 .1 .1)
 
--- src/lib.rt:350:22
 disjoint-from-sup-enum-known-e : (t : ℕ) → disjoint-from-sup-lts.Need-enum-known-e (
   entry-reads.Asked,
   entry-reads.Learnt,
@@ -56,7 +53,6 @@ disjoint-from-sup-enum-known-e : (t : ℕ) → disjoint-from-sup-lts.Need-enum-k
 ) (disjoint-from-sup-at t) disjoint-from-sup.Post
 disjoint-from-sup-enum-known-e t c = search needs
 
--- src/lib.rt:351:16
 disjoint-from-sup-disjoint-from-sup-requires :
     (t : ℕ) → disjoint-from-sup-lts.Need-disjoint-from-sup-requires (
       entry-reads.Asked,
@@ -71,7 +67,6 @@ disjoint-from-sup-disjoint-from-sup-requires t c κs =
     let u = under _ (p .1 .1 .0) _ (p .1 .1 .1 .1) _ (sym (c .before .before .before .entry .ensures) ∙ c .before .e .given .1) in
     (omega arith, (p .1 .0, (p .1 .1 .0, (p .1 .1 .1 .0, omega arith))))
 
--- src/lib.rt:354:17
 disjoint-from-sup-disjoint-from-sup-requires-2 :
     (t : ℕ) → disjoint-from-sup-lts.Need-disjoint-from-sup-requires-2 (
       entry-reads.Asked,
@@ -86,7 +81,6 @@ disjoint-from-sup-disjoint-from-sup-requires-2 t c κs =
     let u = under _ (p .1 .1 .0) _ (p .1 .1 .1 .1) _ (sym (c .before .before .before .before .before .entry .ensures) ∙ c .before .before .before .e .given .1) in
     (omega arith, (p .1 .0, (p .1 .1 .0, (p .1 .1 .1 .0, omega arith))))
 
--- src/lib.rt:357:14
 disjoint-from-sup-disjoint-requires : (t : ℕ) → disjoint-from-sup-lts.Need-disjoint-requires (
   entry-reads.Asked,
   entry-reads.Learnt,
@@ -97,7 +91,6 @@ disjoint-from-sup-disjoint-requires : (t : ℕ) → disjoint-from-sup-lts.Need-d
 ) (disjoint-from-sup-at t) disjoint-from-sup.Post
 disjoint-from-sup-disjoint-requires t c κs = let p = c .before .before .before .pre in (p .1 .0, (p .1 .1 .0, (p .1 .1 .1 .1, p .1 .1 .1 .0)))
 
--- src/lib.rt:341:1
 disjoint-from-sup-returns : (t : ℕ) → disjoint-from-sup-lts.Need-returns (
   entry-reads.Asked,
   entry-reads.Learnt,
@@ -111,7 +104,6 @@ disjoint-from-sup-returns t c =
     let h = sym (c .before .disjoint-from-sup .ensures) ∙ c .if1 .taken in
     sym (disjoint-step _ (p .1 .1 .0) _ (p .1 .1 .1 .1) (sym (c .before .before .before .e .given .1) ∙ c .before .before .before .before .before .entry .ensures) _ ∙ rw h)
 
--- src/lib.rt:341:1
 disjoint-from-sup-returns-2 : (t : ℕ) → disjoint-from-sup-lts.Need-returns-2 (
   entry-reads.Asked,
   entry-reads.Learnt,
@@ -125,7 +117,6 @@ disjoint-from-sup-returns-2 t c =
     let h = sym (c .before .before .disjoint-from-sup .ensures) ∙ c .before .if1 .left in
     c .disjoint-from-sup2 .ensures ∙ sym (disjoint-step _ (p .1 .1 .0) _ (p .1 .1 .1 .1) (sym (c .before .before .before .before .e .given .1) ∙ c .before .before .before .before .before .before .entry .ensures) _ ∙ rw h)
 
--- src/lib.rt:341:1
 disjoint-from-sup-returns-3 : (t : ℕ) → disjoint-from-sup-lts.Need-returns-3 (
   entry-reads.Asked,
   entry-reads.Learnt,

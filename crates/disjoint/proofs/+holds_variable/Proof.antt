@@ -1,5 +1,4 @@
-use mathlib.Core.Path.{_≡_, sym, ap, _∙_}
-use mathlib.Core.Bool.{true, false}
+use mathlib.Core.Path.{sym, _∙_}
 use native.Mathlib.Omega.{arith}
 use borrow.Author.Needs.{needs}
 use Rattle.disjoint.proofs.Views.{under}
@@ -33,7 +32,6 @@ holds-variable-below t =
     (falls 1 holds-variable-kinds.ps _<_ μ-holds-variable t)
     holds-variable.Pre
 
--- src/lib.rt:304:9
 holds-variable-entry-requires : (t : ℕ) → holds-variable-lts.Need-entry-requires (
   entry-reads.Asked,
   entry-reads.Learnt,
@@ -42,7 +40,6 @@ holds-variable-entry-requires : (t : ℕ) → holds-variable-lts.Need-entry-requ
 ) (holds-variable-at t) holds-variable.Post
 holds-variable-entry-requires t c κs = let p = c .before .pre in (p .1 .0, p .1 .1 .1)
 
--- src/lib.rt:306:41
 holds-variable-enum-told : (t : ℕ) → holds-variable-lts.Need-enum-told (
   entry-reads.Asked,
   entry-reads.Learnt,
@@ -51,7 +48,6 @@ holds-variable-enum-told : (t : ℕ) → holds-variable-lts.Need-enum-told (
 ) (holds-variable-at t) holds-variable.Post
 holds-variable-enum-told t c = search needs
 
--- src/lib.rt:307:22
 holds-variable-enum-known-e : (t : ℕ) → holds-variable-lts.Need-enum-known-e (
   entry-reads.Asked,
   entry-reads.Learnt,
@@ -60,7 +56,6 @@ holds-variable-enum-known-e : (t : ℕ) → holds-variable-lts.Need-enum-known-e
 ) (holds-variable-at t) holds-variable.Post
 holds-variable-enum-known-e t c = search needs
 
--- src/lib.rt:308:16
 holds-variable-holds-variable-requires : (t : ℕ) → holds-variable-lts.Need-holds-variable-requires (
   entry-reads.Asked,
   entry-reads.Learnt,
@@ -72,7 +67,6 @@ holds-variable-holds-variable-requires t c κs =
     let u = under _ (p .1 .1 .0) _ (p .1 .1 .1) _ (sym (c .before .before .before .entry .ensures) ∙ c .before .e .given .1) in
     (omega arith, (p .1 .0, (p .1 .1 .0, omega arith)))
 
--- src/lib.rt:311:17
 holds-variable-holds-variable-requires-2 :
     (t : ℕ) → holds-variable-lts.Need-holds-variable-requires-2 (
       entry-reads.Asked,
@@ -85,7 +79,6 @@ holds-variable-holds-variable-requires-2 t c κs =
     let u = under _ (p .1 .1 .0) _ (p .1 .1 .1) _ (sym (c .before .before .before .before .before .entry .ensures) ∙ c .before .before .before .e .given .1) in
     (omega arith, (p .1 .0, (p .1 .1 .0, omega arith)))
 
--- src/lib.rt:314:24
 holds-variable-enum-known-e-2 : (t : ℕ) → holds-variable-lts.Need-enum-known-e-2 (
   entry-reads.Asked,
   entry-reads.Learnt,
@@ -94,7 +87,6 @@ holds-variable-enum-known-e-2 : (t : ℕ) → holds-variable-lts.Need-enum-known
 ) (holds-variable-at t) holds-variable.Post
 holds-variable-enum-known-e-2 t c = search needs
 
--- src/lib.rt:314:45
 holds-variable-holds-variable-requires-3 :
     (t : ℕ) → holds-variable-lts.Need-holds-variable-requires-3 (
       entry-reads.Asked,
@@ -107,7 +99,6 @@ holds-variable-holds-variable-requires-3 t c κs =
     let u = under _ (p .1 .1 .0) _ (p .1 .1 .1) _ (sym (c .before .before .before .entry .ensures) ∙ c .before .e2 .given .1) in
     (omega arith, (p .1 .0, (p .1 .1 .0, omega arith)))
 
--- src/lib.rt:298:1
 holds-variable-returns : (t : ℕ) → holds-variable-lts.Need-returns (
   entry-reads.Asked,
   entry-reads.Learnt,
@@ -118,7 +109,6 @@ holds-variable-returns t c =
     let p = c .before .before .before .before .pre in
     sym (holds-step _ (p .1 .1 .0) _ (p .1 .1 .1) (sym (c .enum-told .given .1) ∙ c .before .before .entry .ensures))
 
--- src/lib.rt:298:1
 holds-variable-returns-2 : (t : ℕ) → holds-variable-lts.Need-returns-2 (
   entry-reads.Asked,
   entry-reads.Learnt,
@@ -130,7 +120,6 @@ holds-variable-returns-2 t c =
     let h = sym (c .before .holds-variable .ensures) ∙ c .if1 .taken in
     sym (holds-step _ (p .1 .1 .0) _ (p .1 .1 .1) (sym (c .before .before .before .e .given .1) ∙ c .before .before .before .before .before .entry .ensures) ∙ rw h)
 
--- src/lib.rt:298:1
 holds-variable-returns-3 : (t : ℕ) → holds-variable-lts.Need-returns-3 (
   entry-reads.Asked,
   entry-reads.Learnt,
@@ -142,7 +131,6 @@ holds-variable-returns-3 t c =
     let h = sym (c .before .before .holds-variable .ensures) ∙ c .before .if1 .left in
     c .holds-variable2 .ensures ∙ sym (holds-step _ (p .1 .1 .0) _ (p .1 .1 .1) (sym (c .before .before .before .before .e .given .1) ∙ c .before .before .before .before .before .before .entry .ensures) ∙ rw h)
 
--- src/lib.rt:298:1
 holds-variable-returns-4 : (t : ℕ) → holds-variable-lts.Need-returns-4 (
   entry-reads.Asked,
   entry-reads.Learnt,
@@ -153,7 +141,6 @@ holds-variable-returns-4 t c =
     let p = c .before .before .before .before .before .before .pre in
     c .holds-variable3 .ensures ∙ sym (holds-step _ (p .1 .1 .0) _ (p .1 .1 .1) (sym (c .before .before .e2 .given .1) ∙ c .before .before .before .before .entry .ensures))
 
--- src/lib.rt:298:1
 holds-variable-returns-5 : (t : ℕ) → holds-variable-lts.Need-returns-5 (
   entry-reads.Asked,
   entry-reads.Learnt,

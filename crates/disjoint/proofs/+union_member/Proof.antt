@@ -1,5 +1,4 @@
-use mathlib.Core.Path.{_≡_, sym, ap, _∙_}
-use mathlib.Core.Bool.{true, false}
+use mathlib.Core.Path.{sym, _∙_}
 use native.Mathlib.Omega.{arith}
 use borrow.Author.Needs.{needs}
 use Rattle.disjoint.proofs.Views.{under}
@@ -29,7 +28,6 @@ union-member-below t =
     (falls 1 union-member-kinds.ps _<_ μ-union-member t)
     union-member.Pre
 
--- src/lib.rt:327:9
 union-member-returns : (t : ℕ) → union-member-lts.Need-returns (
   entry-reads.Asked,
   entry-reads.Learnt,
@@ -38,7 +36,6 @@ union-member-returns : (t : ℕ) → union-member-lts.Need-returns (
 ) (union-member-at t) union-member.Post
 union-member-returns t c = member-self _ _ _ (c .if1 .taken)
 
--- src/lib.rt:329:9
 union-member-entry-requires : (t : ℕ) → union-member-lts.Need-entry-requires (
   entry-reads.Asked,
   entry-reads.Learnt,
@@ -47,7 +44,6 @@ union-member-entry-requires : (t : ℕ) → union-member-lts.Need-entry-requires
 ) (union-member-at t) union-member.Post
 union-member-entry-requires t c κs = let p = c .before .before .pre in (p .1 .0, p .1 .1 .1)
 
--- src/lib.rt:331:22
 union-member-enum-known-e : (t : ℕ) → union-member-lts.Need-enum-known-e (
   entry-reads.Asked,
   entry-reads.Learnt,
@@ -56,7 +52,6 @@ union-member-enum-known-e : (t : ℕ) → union-member-lts.Need-enum-known-e (
 ) (union-member-at t) union-member.Post
 union-member-enum-known-e t c = search needs
 
--- src/lib.rt:332:16
 union-member-union-member-requires : (t : ℕ) → union-member-lts.Need-union-member-requires (
   entry-reads.Asked,
   entry-reads.Learnt,
@@ -68,7 +63,6 @@ union-member-union-member-requires t c κs =
     let u = under _ (p .1 .1 .0) _ (p .1 .1 .1) _ (sym (c .before .before .before .entry .ensures) ∙ c .before .e .given .1) in
     (omega arith, (p .1 .0, (p .1 .1 .0, omega arith)))
 
--- src/lib.rt:335:17
 union-member-union-member-requires-2 : (t : ℕ) → union-member-lts.Need-union-member-requires-2 (
   entry-reads.Asked,
   entry-reads.Learnt,
@@ -80,7 +74,6 @@ union-member-union-member-requires-2 t c κs =
     let u = under _ (p .1 .1 .0) _ (p .1 .1 .1) _ (sym (c .before .before .before .before .before .entry .ensures) ∙ c .before .before .before .e .given .1) in
     (omega arith, (p .1 .0, (p .1 .1 .0, omega arith)))
 
--- src/lib.rt:338:24
 union-member-enum-known-e-2 : (t : ℕ) → union-member-lts.Need-enum-known-e-2 (
   entry-reads.Asked,
   entry-reads.Learnt,
@@ -89,7 +82,6 @@ union-member-enum-known-e-2 : (t : ℕ) → union-member-lts.Need-enum-known-e-2
 ) (union-member-at t) union-member.Post
 union-member-enum-known-e-2 t c = search needs
 
--- src/lib.rt:338:45
 union-member-union-member-requires-3 : (t : ℕ) → union-member-lts.Need-union-member-requires-3 (
   entry-reads.Asked,
   entry-reads.Learnt,
@@ -101,7 +93,6 @@ union-member-union-member-requires-3 t c κs =
     let u = under _ (p .1 .1 .0) _ (p .1 .1 .1) _ (sym (c .before .before .before .entry .ensures) ∙ c .before .e2 .given .1) in
     (omega arith, (p .1 .0, (p .1 .1 .0, omega arith)))
 
--- src/lib.rt:320:1
 union-member-returns-2 : (t : ℕ) → union-member-lts.Need-returns-2 (
   entry-reads.Asked,
   entry-reads.Learnt,
@@ -113,7 +104,6 @@ union-member-returns-2 t c =
     let h = sym (c .before .union-member .ensures) ∙ c .if2 .taken in
     sym (member-step _ (p .1 .1 .0) _ (p .1 .1 .1) (sym (c .before .before .before .e .given .1) ∙ c .before .before .before .before .before .entry .ensures) _ (c .before .before .before .before .before .before .if1 .left) ∙ rw h)
 
--- src/lib.rt:320:1
 union-member-returns-3 : (t : ℕ) → union-member-lts.Need-returns-3 (
   entry-reads.Asked,
   entry-reads.Learnt,
@@ -125,7 +115,6 @@ union-member-returns-3 t c =
     let h = sym (c .before .before .union-member .ensures) ∙ c .before .if2 .left in
     c .union-member2 .ensures ∙ sym (member-step _ (p .1 .1 .0) _ (p .1 .1 .1) (sym (c .before .before .before .before .e .given .1) ∙ c .before .before .before .before .before .before .entry .ensures) _ (c .before .before .before .before .before .before .before .if1 .left) ∙ rw h)
 
--- src/lib.rt:320:1
 union-member-returns-4 : (t : ℕ) → union-member-lts.Need-returns-4 (
   entry-reads.Asked,
   entry-reads.Learnt,
@@ -136,7 +125,6 @@ union-member-returns-4 t c =
     let p = c .before .before .before .before .before .before .before .pre in
     c .union-member3 .ensures ∙ sym (member-step _ (p .1 .1 .0) _ (p .1 .1 .1) (sym (c .before .before .e2 .given .1) ∙ c .before .before .before .before .entry .ensures) _ (c .before .before .before .before .before .if1 .left))
 
--- src/lib.rt:320:1
 union-member-returns-5 : (t : ℕ) → union-member-lts.Need-returns-5 (
   entry-reads.Asked,
   entry-reads.Learnt,

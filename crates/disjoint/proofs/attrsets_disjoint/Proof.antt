@@ -1,4 +1,4 @@
-use mathlib.Core.Path.{_≡_, sym, ap, _∙_}
+use mathlib.Core.Path.{sym, _∙_}
 use Rattle.disjoint.specs.Shapes.{attrsetsDisjointIn}
 use borrow.Author.Needs.{needs}
 use Rattle.disjoint.proofs.attrsets_disjoint.Statement.{statement}
@@ -7,20 +7,16 @@ use Rattle.disjoint.proofs.attrsets_disjoint.Reads as reads
 use Rattle.disjoint.proofs.attrsets_disjoint.Lts as lts
 use Rattle.disjoint.proofs.closed_lacks.Reads as closed-lacks-reads
 
--- src/lib.rt:171:8
 closed-lacks-requires : tie.Need-closed-lacks-requires
 closed-lacks-requires c κs = search needs
 
--- src/lib.rt:172:9
 returns : tie.Need-returns
 unfolding attrsetsDisjointIn
 returns c = rw (sym (c .before .closed-lacks .ensures) ∙ c .if1 .taken)
 
--- src/lib.rt:174:5
 closed-lacks-requires-2 : tie.Need-closed-lacks-requires-2
 closed-lacks-requires-2 c κs = search needs
 
--- src/lib.rt:165:1
 returns-2 : tie.Need-returns-2
 unfolding attrsetsDisjointIn
 returns-2 c = rw (sym (c .before .before .closed-lacks .ensures) ∙ c .before .if1 .left) (c .closed-lacks2 .ensures)

@@ -7,17 +7,14 @@ use Rattle.disjoint.proofs.closed_lacks.Reads as reads
 use Rattle.disjoint.proofs.closed_lacks.Lts as lts
 use Rattle.disjoint.proofs.lacks_some.Reads as lacks-some-reads
 
--- src/lib.rt:159:9
 returns : tie.Need-returns
-returns c = open-lacks _ _ _ (c .if1 .taken)
+returns c = let a = c .before .before .args in open-lacks _ (a .a) (a .b) (c .if1 .taken)
 
--- src/lib.rt:161:5
 lacks-some-requires : tie.Need-lacks-some-requires
 lacks-some-requires c κs = search needs
 
--- src/lib.rt:152:1
 returns-2 : tie.Need-returns-2
-returns-2 c = c .lacks-some .ensures ∙ shut-lacks _ _ _ (c .before .if1 .left)
+returns-2 c = let a = c .before .before .before .args in c .lacks-some .ensures ∙ shut-lacks _ (a .a) (a .b) (c .before .if1 .left)
 
 pub closed-lacks-spec : {M : Type 1} → statement M
 closed-lacks-spec = tie.close (tie.spec returns lacks-some-requires returns-2)

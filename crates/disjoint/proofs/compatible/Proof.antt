@@ -1,4 +1,4 @@
-use mathlib.Core.Path.{_≡_, sym, ap, _∙_}
+use mathlib.Core.Path.{sym, _∙_}
 use Rattle.disjoint.proofs.Shapes.{same-kind, to-named, to-lambda, to-other}
 use borrow.Author.Needs.{needs}
 use Rattle.disjoint.proofs.compatible.Statement.{statement}
@@ -8,33 +8,26 @@ use Rattle.disjoint.proofs.compatible.Lts as lts
 use Rattle.disjoint.proofs.has_functor.Reads as has-functor-reads
 use Rattle.image.proofs.entry_word.Reads as entry-word-reads
 
--- src/lib.rt:284:9
 entry-word-requires : tie.Need-entry-word-requires
 entry-word-requires c κs = search needs
 
--- src/lib.rt:285:8
 entry-word-requires-2 : tie.Need-entry-word-requires-2
 entry-word-requires-2 c κs = search needs
 
--- src/lib.rt:286:9
 returns : tie.Need-returns
 returns c = same-kind _ _ _ (sym (c .before .entry-word2 .ensures) ∙ c .if1 .taken ∙ c .before .before .entry-word .ensures)
 
--- src/lib.rt:289:9
 returns-2 : tie.Need-returns-2
 returns-2 c = to-named _ _ _ (λ q. c .before .if1 .left (c .before .before .entry-word2 .ensures ∙ q ∙ sym (c .before .before .before .entry-word .ensures))) (sym (c .before .before .before .entry-word .ensures) ∙ c .if2 .taken)
 
--- src/lib.rt:292:9
 has-functor-requires : tie.Need-has-functor-requires
 has-functor-requires c κs = search needs
 
--- src/lib.rt:292:9
 returns-3 : tie.Need-returns-3
 returns-3 c =
     c .has-functor .ensures
     ∙ to-lambda _ _ _ (λ q. c .before .before .before .if1 .left (c .before .before .before .before .entry-word2 .ensures ∙ q ∙ sym (c .before .before .before .before .before .entry-word .ensures))) (sym (c .before .before .before .before .before .entry-word .ensures) ∙ c .before .if3 .taken)
 
--- src/lib.rt:277:1
 returns-4 : tie.Need-returns-4
 returns-4 c =
     let e = c .before .before .before .before .entry-word .ensures in

@@ -1,4 +1,4 @@
-use mathlib.Core.Path.{_≡_, sym, ap, _∙_}
+use mathlib.Core.Path.{_∙_}
 use Rattle.disjoint.proofs.Shapes.{shape-inside, disjoint-by}
 use borrow.Author.Needs.{needs}
 use Rattle.disjoint.proofs.disjoint.Statement.{statement}
@@ -6,36 +6,30 @@ use Rattle.disjoint.proofs.disjoint.Tie as tie
 use Rattle.disjoint.proofs.disjoint.Reads as reads
 use Rattle.disjoint.proofs.disjoint.Lts as lts
 use Rattle.disjoint.proofs.shape_of.Reads as shape-of-reads
-use Rattle.disjoint.proofs.shapes_disjoint.Reads as shapes-disjoint-reads
+use Rattle.disjoint.proofs.are_shapes_disjoint.Reads as are-shapes-disjoint-reads
 use Rattle.image.proofs.entry.Reads as entry-reads
 
--- src/lib.rt:268:24
 entry-requires : tie.Need-entry-requires
 entry-requires c κs = search needs
 
--- src/lib.rt:268:9
 shape-of-requires : tie.Need-shape-of-requires
 shape-of-requires c κs = search needs
 
--- src/lib.rt:269:24
 entry-requires-2 : tie.Need-entry-requires-2
 entry-requires-2 c κs = search needs
 
--- src/lib.rt:269:9
 shape-of-requires-2 : tie.Need-shape-of-requires-2
 shape-of-requires-2 c κs = search needs
 
--- src/lib.rt:270:5
-shapes-disjoint-requires : tie.Need-shapes-disjoint-requires
-shapes-disjoint-requires c κs =
+are-shapes-disjoint-requires : tie.Need-are-shapes-disjoint-requires
+are-shapes-disjoint-requires c κs =
     let p = c .before .before .before .before .before .pre in
     (p .0, (rw (c .before .before .shape-of .ensures) (shape-inside _ (p .1 .0) _ (p .1 .1 .0) _ (c .before .before .before .entry .ensures)), rw (c .shape-of2 .ensures) (shape-inside _ (p .1 .0) _ (p .1 .1 .1) _ (c .before .entry2 .ensures))))
 
--- src/lib.rt:261:1
 returns : tie.Need-returns
 returns c =
     let p = c .before .before .before .before .before .before .pre in
-    c .shapes-disjoint .ensures ∙ rw (c .before .before .before .shape-of .ensures, c .before .shape-of2 .ensures) (disjoint-by _ (p .1 .0) _ _ (p .1 .1 .0) (p .1 .1 .1) _ _ (c .before .before .before .before .entry .ensures) (c .before .before .entry2 .ensures))
+    c .are-shapes-disjoint .ensures ∙ rw (c .before .before .before .shape-of .ensures, c .before .shape-of2 .ensures) (disjoint-by _ (p .1 .0) _ _ (p .1 .1 .0) (p .1 .1 .1) _ _ (c .before .before .before .before .entry .ensures) (c .before .before .entry2 .ensures))
 
 pub disjoint-spec : {M : Type 1} → statement M
 disjoint-spec =
@@ -45,5 +39,5 @@ disjoint-spec =
     shape-of-requires
     entry-requires-2
     shape-of-requires-2
-    shapes-disjoint-requires
+    are-shapes-disjoint-requires
     returns)

@@ -1,5 +1,5 @@
 -- The loop's invariant: the answer among all the records is that among those from i on.
-use Prim.Native.Nat.{_+_, _≤_, _-_}
+use Prim.Native.Nat.{_≤_, _-_}
 use native.Mathlib.Omega.{arith}
 use mathlib.Core.Path.{_≡_, sym, _∙_}
 use denote.Ref.{now}
@@ -20,39 +20,31 @@ Inv-loop image first count name end i₀ i =
 abbrev μ-loop : tie.MeasureT-loop
 μ-loop image first count name end i₀ i = end - i
 
--- src/lib.rt:62:15
 add-end : tie.Need-add-end Inv-loop μ-loop
 add-end c = let s = c .before in omega (arith, fields-few (now (s .args .image)) (s .pre .0))
 
--- src/lib.rt:64:5
 loop-holds : tie.Need-loop-holds Inv-loop μ-loop
 loop-holds c = (omega arith, c .before .pre .1, from-first _ _ _ _)
 
--- src/lib.rt:65:12
 field-word-requires : tie.Need-field-word-requires Inv-loop μ-loop
 field-word-requires c κs = (c .before .before .before .pre .0, (omega arith, omega arith))
 
--- src/lib.rt:66:13
 returns : tie.Need-returns Inv-loop μ-loop
 returns c =
     let l = c .before .before .before .loop in
     sym (l .inv .2 ∙ hit _ _ _ _ (c .before .before .loop-test .taken) (l .inv .1) (sym (c .before .field-word .ensures) ∙ c .if1 .taken))
 
--- src/lib.rt:68:9
 add-i : tie.Need-add-i Inv-loop μ-loop
 add-i c = let s = c .before .before .before .before .before in omega (arith, fields-few (now (s .args .image)) (s .pre .0))
 
--- src/lib.rt:64:5
 loop-less : tie.Need-loop-less Inv-loop μ-loop
 loop-less c = omega arith
 
--- src/lib.rt:64:5
 loop-again : tie.Need-loop-again Inv-loop μ-loop
 loop-again c =
     let l = c .before .before .before .loop in
     (omega arith, l .inv .1, l .inv .2 ∙ skip _ _ _ _ (c .before .before .loop-test .taken) (l .inv .1) (λ q. c .if1 .left (c .before .field-word .ensures ∙ q)))
 
--- src/lib.rt:57:1
 returns-2 : tie.Need-returns-2 Inv-loop μ-loop
 returns-2 c = sym (c .before .loop .inv .2 ∙ gone _ _ _ _ (c .loop-test .left))
 

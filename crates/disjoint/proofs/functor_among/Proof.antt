@@ -1,4 +1,4 @@
-use mathlib.Core.Path.{_≡_, sym, ap, _∙_}
+use mathlib.Core.Path.{_∙_}
 use denote.Ref.{now}
 use Rattle.disjoint.proofs.Fields.{unset, set}
 use borrow.Author.Needs.{needs}
@@ -8,23 +8,18 @@ use Rattle.disjoint.proofs.functor_among.Reads as reads
 use Rattle.disjoint.proofs.functor_among.Lts as lts
 use Rattle.disjoint.proofs.field_named.Reads as field-named-reads
 
--- src/lib.rt:79:16
 shared-slice-read-word : tie.Need-shared-slice-read-word
 shared-slice-read-word c = search needs
 
--- src/lib.rt:81:9
 returns : tie.Need-returns
 returns c = unset (now (c .before .before .before .args .image)) _ _ (c .if1 .taken)
 
--- src/lib.rt:83:38
 sub-field-named : tie.Need-sub-field-named
 sub-field-named c = search needs
 
--- src/lib.rt:83:5
 field-named-requires : tie.Need-field-named-requires
 field-named-requires c κs = search needs
 
--- src/lib.rt:74:1
 returns-2 : tie.Need-returns-2
 returns-2 c = c .field-named .ensures ∙ set (now (c .before .before .before .before .args .image)) _ _ (c .before .if1 .left)
 

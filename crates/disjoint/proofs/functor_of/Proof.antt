@@ -1,4 +1,4 @@
-use mathlib.Core.Path.{_≡_, sym, ap, _∙_}
+use mathlib.Core.Path.{sym, _∙_}
 use Rattle.disjoint.proofs.Shapes.{shape-inside, functor-at, functor-none}
 use borrow.Author.Needs.{needs}
 use Rattle.disjoint.proofs.functor_of.Statement.{statement}
@@ -8,27 +8,22 @@ use Rattle.disjoint.proofs.functor_of.Lts as lts
 use Rattle.disjoint.proofs.functor_among.Reads as functor-among-reads
 use Rattle.image.proofs.entry.Reads as entry-reads
 
--- src/lib.rt:93:9
 entry-requires : tie.Need-entry-requires
 entry-requires c κs = search needs
 
--- src/lib.rt:94:24
 enum-known-e : tie.Need-enum-known-e
 enum-known-e c = search needs
 
--- src/lib.rt:95:9
 returns : tie.Need-returns
 returns c =
     let p = c .before .before .before .pre in
     functor-none _ (p .1 .0) _ (p .1 .1) _ (c .before .entry .ensures) (c .match .keys2)
 
--- src/lib.rt:97:5
 functor-among-requires : tie.Need-functor-among-requires
 functor-among-requires c κs =
     let p = c .before .before .before .before .before .pre in
     (p .0, shape-inside _ (p .1 .0) _ (p .1 .1) _ (sym (c .before .e .given .1) ∙ c .before .before .before .entry .ensures))
 
--- src/lib.rt:87:1
 returns-2 : tie.Need-returns-2
 returns-2 c =
     let p = c .before .before .before .before .before .before .pre in

@@ -1,4 +1,4 @@
-use mathlib.Core.Path.{_≡_, sym, ap, _∙_}
+use mathlib.Core.Path.{ap, _∙_}
 use Rattle.disjoint.specs.Fields.{isFound}
 use Rattle.disjoint.proofs.Fields.{functor-has}
 use Rattle.disjoint.proofs.Views.{inside}
@@ -10,15 +10,12 @@ use Rattle.disjoint.proofs.has_functor.Lts as lts
 use Rattle.disjoint.proofs.functor_of.Reads as functor-of-reads
 use Rattle.disjoint.proofs.is_found.Reads as is-found-reads
 
--- src/lib.rt:107:14
 functor-of-requires : tie.Need-functor-of-requires
 functor-of-requires c κs = search needs
 
--- src/lib.rt:107:5
 is-found-requires : tie.Need-is-found-requires
 is-found-requires c κs = search needs
 
--- src/lib.rt:101:1
 returns : tie.Need-returns
 returns c =
     let p = c .before .before .before .pre in

@@ -1,4 +1,5 @@
-use mathlib.Core.Path.{_≡_, sym, ap, _∙_}
+use native.Mathlib.Omega.{arith}
+use mathlib.Core.Path.{ap, _∙_}
 use Rattle.disjoint.specs.Fields.{isFound}
 use Rattle.disjoint.specs.Shapes.{callable}
 use borrow.Author.Needs.{needs}
@@ -9,15 +10,12 @@ use Rattle.disjoint.proofs.is_callable.Lts as lts
 use Rattle.disjoint.proofs.functor_among.Reads as functor-among-reads
 use Rattle.disjoint.proofs.is_found.Reads as is-found-reads
 
--- src/lib.rt:116:14
 functor-among-requires : tie.Need-functor-among-requires
-functor-among-requires c κs = search needs
+functor-among-requires c κs = let p = c .before .pre in (p .0, omega (arith, p .1))
 
--- src/lib.rt:116:5
 is-found-requires : tie.Need-is-found-requires
 is-found-requires c κs = search needs
 
--- src/lib.rt:111:1
 returns : tie.Need-returns
 unfolding callable
 returns c = c .is-found .ensures ∙ ap isFound (c .before .functor-among .ensures)

@@ -1,4 +1,4 @@
-use mathlib.Core.Path.{_≡_, sym, ap, _∙_}
+use mathlib.Core.Path.{sym, _∙_}
 use Rattle.disjoint.proofs.Shapes.{optional, required}
 use borrow.Author.Needs.{needs}
 use Rattle.disjoint.proofs.lacks_field.Statement.{statement}
@@ -9,27 +9,21 @@ use Rattle.disjoint.proofs.field_named.Reads as field-named-reads
 use Rattle.disjoint.proofs.is_found.Reads as is-found-reads
 use Rattle.image.proofs.field_word.Reads as field-word-reads
 
--- src/lib.rt:126:8
 field-word-requires : tie.Need-field-word-requires
 field-word-requires c κs = search needs
 
--- src/lib.rt:127:9
 returns : tie.Need-returns
 returns c = optional _ (c .before .before .before .args .a) (c .before .before .before .pre .1 .0) _ (λ q. c .if1 .taken (c .before .field-word .ensures ∙ q))
 
--- src/lib.rt:129:9
 field-word-requires-2 : tie.Need-field-word-requires-2
 field-word-requires-2 c κs = search needs
 
--- src/lib.rt:130:15
 field-named-requires : tie.Need-field-named-requires
 field-named-requires c κs = search needs
 
--- src/lib.rt:130:6
 is-found-requires : tie.Need-is-found-requires
 is-found-requires c κs = search needs
 
--- src/lib.rt:120:1
 returns-2 : tie.Need-returns-2
 returns-2 c =
     rw (c .is-found .ensures, c .before .field-named .ensures, c .before .before .field-word2 .ensures)

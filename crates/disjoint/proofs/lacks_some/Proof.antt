@@ -7,7 +7,7 @@ use lib.ListN.{length}
 use Rattle.model.specs.Lists.{any}
 use Rattle.model.specs.Shapes.{lacksField}
 use Rattle.image.specs.Shown.{fieldsIn}
-use Rattle.disjoint.specs.Fields.{Inside, fieldsHeld}
+use Rattle.disjoint.specs.Fields.{fieldsHeld}
 use Rattle.disjoint.proofs.Fields.{fields-few, rest, stop, go-on, nothing}
 use Rattle.disjoint.proofs.Shapes.{lacks-from}
 use Rattle.disjoint.proofs.lacks_some.Statement.{statement}
@@ -25,39 +25,31 @@ Inv-loop image a j₀ end j =
 abbrev μ-loop : tie.MeasureT-loop
 μ-loop image a j₀ end j = end - j
 
--- src/lib.rt:144:15
 add-end : tie.Need-add-end Inv-loop μ-loop
 add-end c = let s = c .before .before in omega (arith, fields-few (now (s .args .image)) (s .pre .0))
 
--- src/lib.rt:145:5
 loop-holds : tie.Need-loop-holds Inv-loop μ-loop
 loop-holds c = (omega arith, c .before .before .pre .1 .1, refl)
 
--- src/lib.rt:146:12
 lacks-field-requires : tie.Need-lacks-field-requires Inv-loop μ-loop
 lacks-field-requires c κs = let s = c .before .before .before .before in (s .pre .0, (s .pre .1 .0, omega arith))
 
--- src/lib.rt:147:13
 returns : tie.Need-returns Inv-loop μ-loop
 returns c =
     let l = c .before .before .before .loop in
     sym (lacks-from _ _ _ ∙ (l .inv .2 ∙ stop _ _ _ _ (c .before .before .loop-test .taken) (l .inv .1) (sym (c .before .lacks-field .ensures) ∙ c .if1 .taken)))
 
--- src/lib.rt:149:9
 add-j : tie.Need-add-j Inv-loop μ-loop
 add-j c = let s = c .before .before .before .before .before .before in omega (arith, fields-few (now (s .args .image)) (s .pre .0))
 
--- src/lib.rt:145:5
 loop-less : tie.Need-loop-less Inv-loop μ-loop
 loop-less c = omega arith
 
--- src/lib.rt:145:5
 loop-again : tie.Need-loop-again Inv-loop μ-loop
 loop-again c =
     let l = c .before .before .before .loop in
     (omega arith, l .inv .1, l .inv .2 ∙ go-on _ _ _ _ (c .before .before .loop-test .taken) (l .inv .1) (sym (c .before .lacks-field .ensures) ∙ c .if1 .left))
 
--- src/lib.rt:137:1
 returns-2 : tie.Need-returns-2 Inv-loop μ-loop
 returns-2 c = sym (lacks-from _ _ _ ∙ (c .before .loop .inv .2 ∙ nothing _ _ _ _ (c .loop-test .left)))
 

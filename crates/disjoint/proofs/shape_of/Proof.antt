@@ -1,4 +1,4 @@
-use mathlib.Core.Path.{_≡_, sym, ap, _∙_}
+use mathlib.Core.Path.{sym, ap}
 use Rattle.disjoint.specs.Shapes.{shapeOf}
 use borrow.Author.Needs.{needs}
 use Rattle.disjoint.proofs.shape_of.Statement.{statement}
@@ -6,75 +6,57 @@ use Rattle.disjoint.proofs.shape_of.Tie as tie
 use Rattle.disjoint.proofs.shape_of.Reads as reads
 use Rattle.disjoint.proofs.shape_of.Lts as lts
 
--- src/lib.rt:211:26
 enum-known-e : tie.Need-enum-known-e
 enum-known-e c = search needs
 
--- src/lib.rt:212:27
 enum-told : tie.Need-enum-told
 enum-told c = search needs
 
--- src/lib.rt:213:48
 enum-told-2 : tie.Need-enum-told-2
 enum-told-2 c = search needs
 
--- src/lib.rt:214:24
 enum-known-e-2 : tie.Need-enum-known-e-2
 enum-known-e-2 c = search needs
 
--- src/lib.rt:215:41
 enum-told-3 : tie.Need-enum-told-3
 enum-told-3 c = search needs
 
--- src/lib.rt:216:48
 enum-told-4 : tie.Need-enum-told-4
 enum-told-4 c = search needs
 
--- src/lib.rt:217:26
 enum-told-5 : tie.Need-enum-told-5
 enum-told-5 c = search needs
 
--- src/lib.rt:218:31
 enum-told-6 : tie.Need-enum-told-6
 enum-told-6 c = search needs
 
--- src/lib.rt:219:31
 enum-told-7 : tie.Need-enum-told-7
 enum-told-7 c = search needs
 
--- src/lib.rt:207:1
 returns : tie.Need-returns
 returns c = sym (ap shapeOf (c .before .e .given .1))
 
--- src/lib.rt:207:1
 returns-2 : tie.Need-returns-2
 returns-2 c = search needs
 
--- src/lib.rt:207:1
 returns-3 : tie.Need-returns-3
 returns-3 c = search needs
 
--- src/lib.rt:207:1
 returns-4 : tie.Need-returns-4
 returns-4 c = sym (ap shapeOf (c .before .e2 .given .1))
 
--- src/lib.rt:207:1
 returns-5 : tie.Need-returns-5
 returns-5 c = search needs
 
--- src/lib.rt:207:1
 returns-6 : tie.Need-returns-6
 returns-6 c = search needs
 
--- src/lib.rt:207:1
 returns-7 : tie.Need-returns-7
 returns-7 c = search needs
 
--- src/lib.rt:207:1
 returns-8 : tie.Need-returns-8
 returns-8 c = search needs
 
--- src/lib.rt:207:1
 returns-9 : tie.Need-returns-9
 returns-9 c = search needs
 
