@@ -103,6 +103,11 @@ same-length w v fs s r =
     ap length (r .is) ∙ words-length (fieldsTo w fs) (r .within .held) (r .within .pending)
     ∙ sym (words-length (table w) (s .within .held) (s .within .pending)) ∙ sym (ap length (s .is))
 
+-- the entry has the room that it had
+pub entry-room : (w v : List ℕ) (fs : List Field) → Shows v (fieldsTo w fs) → length (entriesOf w) < storeOf w .capacities .entries → length (entriesOf v) < storeOf v .capacities .entries
+unfolding withFields
+entry-room w v fs sv h = subst (λ (t : Table). length (t .store .entries) < t .store .capacities .entries) (sym (seen sv)) h
+
 -- what is told
 module _ (w l : List ℕ) (wide : Bool) (d : Dynamic) where
   abbrev pub Replied : Told → List ℕ → Type 0
