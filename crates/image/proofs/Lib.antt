@@ -5,3 +5,5 @@ pub mod Placing
 pub mod Places
 pub mod Lent
 pub mod Pending
+pub mod Searching
+pub mod Starting

@@ -17,7 +17,7 @@ use Rattle.image.specs.Shown.{entriesOf, fieldsIn, boundsAll, visitedIn,
 use Rattle.image.specs.Records.{fieldAt, boundAt, pairAt}
 
 module _ {A : Type 0} (of : List ℕ → A) (width : ℕ) where
-  read-at : (n : ℕ) (l : List ℕ) (i : ℕ) (d : A) → i < n → getD (readMany of (drop width) n l) i d ≡ of (drop (width * i) l)
+  pub read-at : (n : ℕ) (l : List ℕ) (i : ℕ) (d : A) → i < n → getD (readMany of (drop width) n l) i d ≡ of (drop (width * i) l)
   unfolding readMany
   read-at zero l i d lt = absurd (omega arith)
   read-at (suc n) l zero d lt = rw mul-zero

@@ -1,25 +1,31 @@
-// The image over lent words: the header and six regions, read record by record.
-// specs/Laid.antt says how words are laid out, specs/Shown.antt that they show a table.
+// The image over lent words: the header and six regions, started, read record by record, and changed record by record.
+// specs/Laid.antt says how words are laid out, specs/Shown.antt that they show a table: what changes an image says which
+// table its words show.
 use model::Attrset;
 use model::Dynamic;
 use model::Entry;
+use model::Refusal;
+use model::Reply;
 ghost use mathlib.Core.Path.{_≡_};
 ghost use mathlib.Core.List.{[], _∷_, _++_};
 ghost use mathlib.Core.Bool.{cond};
 ghost use Prim.Native.Nat.{ℕ, _+_, _-_, _*_, _≤_, _<_};
-ghost use lib.ListN.{length, getD, take};
+ghost use lib.ListN.{length, getD, set, take, drop, replicate};
 ghost use lib.Seq.{sets};
 ghost use Rattle.model.specs.Format.{entriesRegion, fieldsRegion, boundsRegion, visitedRegion, pendingRegion, equalsRegion};
-ghost use Rattle.model.specs.Format.{idle, asked};
-ghost use Rattle.model.specs.Lists.{isZero};
+ghost use Rattle.model.specs.Format.{wordEnd, formatAt, formatWord, namesAt, functorAt, idle, asked};
+ghost use Rattle.model.specs.Lists.{isZero, any, readMany};
 ghost use Rattle.model.specs.Table.{_⊑_, entryAt, isAsked};
-ghost use Rattle.model.specs.Image.{word, count, table, entryWords, fieldWords, boundWords, pairWords};
+ghost use Rattle.model.specs.Image.{word, count, table, imageLength, pairOf, entryWords, fieldWords, boundWords, pairWords};
 ghost use Rattle.model.specs.Making.{changed, withNegation, withMark};
-ghost use Rattle.model.specs.Calls.{readOut, withX};
+ghost use Rattle.model.specs.Calls.{readOut, withX, capacitiesRight, start as startOf};
+ghost use Rattle.model.specs.Rules.{samePair, isVisited};
+ghost use Rattle.model.specs.Told.{toldReply};
+ghost use Rattle.laws.specs.Good.{Small};
 ghost use Rattle.image.specs.Laid.{Laid};
 ghost use Rattle.image.specs.Shown.{Shows, Shown, storeOf, entriesOf, fieldsIn, boundsAll, visitedIn, pendingIn, equalsIn};
 ghost use Rattle.image.specs.Shown.{entriesTo, fieldsTo, boundsTo, visitedTo, pendingTo, equalsTo, brokenTo, levelTo};
-ghost use Rattle.image.specs.Stores.{Room, appended, Last, removed};
+ghost use Rattle.image.specs.Stores.{Room, appended, Last, removed, capacitiesOf, smallOnes, headed};
 ghost use Rattle.image.specs.Records.{entryMade, fieldAt, boundAt, pairAt, saysOpen, saysDynamic, dynamicRead, attrsetRead};
 
 // How many records each region takes.
@@ -88,6 +94,27 @@ pub const EQUALS_CAPACITY_AT: usize = 25;
 pub const EQUALS_COUNT_AT: usize = 26;
 
 pub const HEADER_WORDS: usize = 27;
+
+// The format that word 0 names.
+pub const FORMAT: u32 = 1;
+
+// Words are below this.
+const WORD_END: u64 = 4294967296;
+
+// What a capacity, and the name count, may be at most.
+pub const ENTRIES_MOST: u32 = 4096;
+
+pub const FIELDS_MOST: u32 = 16384;
+
+pub const BOUNDS_MOST: u32 = 65536;
+
+pub const VISITED_MOST: u32 = 65536;
+
+pub const PENDING_MOST: u32 = 65536;
+
+pub const EQUALS_MOST: u32 = 65536;
+
+pub const NAMES_MOST: u32 = 4096;
 
 // The state word.
 pub const IDLE: u32 = 0;
@@ -639,4 +666,135 @@ pub fn is_asked(image: &[u32]) -> bool
     ensures { λ r. ⌜ r ≡ isAsked (table (now (image .entry))) ⌝ }
 {
     image[STATE_AT] != IDLE
+}
+
+// Two words as one number.
+fn join(low: u32, high: u32) -> u64
+    ensures { λ r. ⌜ r ≡ low + high * wordEnd ⌝ }
+{
+    low as u64 + high as u64 * WORD_END
+}
+
+// Whether the pair (a, b) is among the first n of a region that is lent from its offset on.
+fn has_pair(region: &[u32], n: usize, a: u32, b: u32) -> bool
+    requires { ⌜ 2 * n ≤ length (now region) ⌝ }
+    ensures { λ r. ⌜ r ≡ any (samePair (a ⊑ b)) (readMany pairOf (drop 2) n (now (region .entry))) ⌝ }
+{
+    let key = join(a, b);
+    let mut i = 0;
+    while i < n {
+        if join(region[2 * i], region[2 * i + 1]) == key {
+            return true;
+        }
+        i += 1;
+    }
+    false
+}
+
+// Whether a pair was visited.
+pub fn visited_has(image: &[u32], sub: u32, sup: u32) -> bool
+    requires { ⌜ Laid (now image) ⌝ }
+    ensures { λ r. ⌜ r ≡ isVisited (storeOf (now (image .entry))) (sub ⊑ sup) ⌝ }
+{
+    let at = wide(image[VISITED_OFFSET_AT]);
+    let n = wide(image[VISITED_COUNT_AT]);
+    has_pair(&image[at..], n, sub, sup)
+}
+
+// How many words an image with these capacities has.
+fn size_of(capacities: Capacities) -> usize
+    ensures { λ r. ⌜ r ≡ imageLength (capacitiesOf capacities) ⌝ }
+{
+    HEADER_WORDS
+        + ENTRY_WIDTH * wide(capacities.entries)
+        + FIELD_WIDTH * wide(capacities.fields)
+        + BOUND_WIDTH * wide(capacities.bounds)
+        + VISITED_WIDTH * wide(capacities.visited)
+        + PENDING_WIDTH * wide(capacities.pending)
+        + EQUALS_WIDTH * wide(capacities.equals)
+}
+
+// Whether no capacity is over its maximum.
+fn capacities_small(c: Capacities) -> bool
+    ensures { λ r. ⌜ r ≡ smallOnes (capacitiesOf c) ⌝ }
+{
+    (c.entries <= ENTRIES_MOST)
+        & (c.fields <= FIELDS_MOST)
+        & (c.bounds <= BOUNDS_MOST)
+        & (c.visited <= VISITED_MOST)
+        & (c.pending <= PENDING_MOST)
+        & (c.equals <= EQUALS_MOST)
+}
+
+// Zeroes every word.
+fn clear(image: &mut [u32])
+    ensures { λ _. ⌜ now (image .exit) ≡ replicate (length (now (image .entry))) 0 ⌝ }
+{
+    let mut at = 0;
+    while at < image.len() {
+        image[at] = 0;
+        at += 1;
+    }
+}
+
+// Writes the format, the name count and the functor word.
+fn put_front(image: &mut [u32], names: u32, functor: u32)
+    requires { ⌜ 27 ≤ length (now image) ⌝ }
+    ensures { λ _. ⌜ now (image .exit) ≡ set (set (set (now (image .entry)) formatAt formatWord) namesAt names) functorAt functor ⌝ }
+{
+    image[FORMAT_AT] = FORMAT;
+    image[NAMES_AT] = names;
+    image[FUNCTOR_AT] = functor;
+}
+
+// Writes region k's words of the header, k counted from 0: its offset, its capacity, and the count 0.
+fn put_region(image: &mut [u32], k: usize, offset: u32, capacity: u32)
+    requires { ⌜ 3 * k + 12 ≤ length (now image) ⌝ }
+    ensures { λ _. ⌜ now (image .exit) ≡ sets (now (image .entry)) (9 + 3 * k) (offset ∷ capacity ∷ 0 ∷ []) ⌝ }
+{
+    let at = ENTRIES_OFFSET_AT;
+    put_triple(&mut image[at..], k, offset, capacity, 0);
+}
+
+// Writes the header of an empty image over zeroes.
+fn put_header(image: &mut [u32], names: u32, functor: u32, capacities: Capacities)
+    requires { ⌜ 27 ≤ length (now image) ⌝ }
+    requires { ⌜ Small (capacitiesOf capacities) ⌝ }
+    ensures { λ _. ⌜ now (image .exit) ≡ headed (now (image .entry)) names functor (capacitiesOf capacities) ⌝ }
+{
+    let entries = HEADER_WORDS as u32;
+    let fields = entries + ENTRY_WIDTH as u32 * capacities.entries;
+    let bounds = fields + FIELD_WIDTH as u32 * capacities.fields;
+    let visited = bounds + BOUND_WIDTH as u32 * capacities.bounds;
+    let pending = visited + VISITED_WIDTH as u32 * capacities.visited;
+    let equals = pending + PENDING_WIDTH as u32 * capacities.pending;
+    put_front(image, names, functor);
+    put_region(image, 0, entries, capacities.entries);
+    put_region(image, 1, fields, capacities.fields);
+    put_region(image, 2, bounds, capacities.bounds);
+    put_region(image, 3, visited, capacities.visited);
+    put_region(image, 4, pending, capacities.pending);
+    put_region(image, 5, equals, capacities.equals);
+}
+
+// Whether an image can be started so.
+fn capacities_right(image: &[u32], names: u32, functor: u32, capacities: Capacities) -> bool
+    ensures { λ r. ⌜ r ≡ capacitiesRight names functor (capacitiesOf capacities) (now (image .entry)) ⌝ }
+{
+    let small = capacities_small(capacities);
+    let size = size_of(capacities);
+    small & (size == image.len()) & (names <= NAMES_MOST) & (functor <= names)
+}
+
+// Starts an image: idle, at level 0, with nothing in its regions. A refusal leaves every word as found.
+pub fn start(image: &mut [u32], names: u32, functor: u32, capacities: Capacities) -> Reply
+    ensures { λ r. ⌜ toldReply r ≡ startOf names functor (capacitiesOf capacities) (now (image .entry)) .says ⌝ }
+    ensures { λ _. ⌜ now (image .exit) ≡ startOf names functor (capacitiesOf capacities) (now (image .entry)) .words ⌝ }
+{
+    if !capacities_right(image, names, functor, capacities) {
+        return Reply::Refused(Refusal::BadCapacity);
+    }
+    clear(image);
+    put_header(image, names, functor, capacities);
+    Reply::Done
 }

@@ -1,0 +1,28 @@
+use Rattle.image.proofs.Starting.{tests-are}
+use Rattle.image.specs.Stores.{capacitiesOf}
+use denote.Ref.{now}
+use borrow.Author.Needs.{needs}
+use Rattle.image.proofs.capacities_right.Statement.{statement}
+use Rattle.image.proofs.capacities_right.Tie as tie
+use Rattle.image.proofs.capacities_right.Reads as reads
+use Rattle.image.proofs.capacities_right.Lts as lts
+use Rattle.image.proofs.capacities_small.Reads as capacities-small-reads
+use Rattle.image.proofs.size_of.Reads as size-of-reads
+
+-- src/lib.rt:782:9
+capacities-small-requires : tie.Need-capacities-small-requires
+capacities-small-requires c κs = search needs
+
+-- src/lib.rt:783:9
+size-of-requires : tie.Need-size-of-requires
+size-of-requires c κs = search needs
+
+-- src/lib.rt:779:1
+returns : tie.Need-returns
+returns c =
+    let s = c .before .before .before in
+    let a = s .args in
+    rw (c .before .capacities-small .ensures, c .size-of .ensures) (tests-are (a .names) (a .functor) (capacitiesOf (a .capacities)) (now (a .image)))
+
+pub capacities-right-spec : {M : Type 1} → statement M
+capacities-right-spec = tie.close (tie.spec capacities-small-requires size-of-requires returns)

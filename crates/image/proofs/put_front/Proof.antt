@@ -1,0 +1,32 @@
+use lib.ListN.{length-set}
+use native.Mathlib.Omega.{arith}
+use borrow.Author.Needs.{needs}
+use Rattle.image.proofs.put_front.Statement.{statement}
+use Rattle.image.proofs.put_front.Tie as tie
+use Rattle.image.proofs.put_front.Reads as reads
+use Rattle.image.proofs.put_front.Lts as lts
+
+-- src/lib.rt:744:5
+slice-write-image : tie.Need-slice-write-image
+slice-write-image c = search needs
+
+-- src/lib.rt:745:5
+slice-write-image-2 : tie.Need-slice-write-image-2
+slice-write-image-2 c = simp length-set (omega arith)
+
+-- src/lib.rt:746:5
+slice-write-image-3 : tie.Need-slice-write-image-3
+slice-write-image-3 c = simp length-set (omega arith)
+
+-- src/lib.rt:740:1
+same-length : tie.Need-same-length
+same-length c = search needs
+
+-- src/lib.rt:740:1
+returns : tie.Need-returns
+returns c = search needs
+
+pub put-front-spec : {M : Type 1} → statement M
+put-front-spec =
+    tie.close
+    (tie.spec slice-write-image slice-write-image-2 slice-write-image-3 same-length returns)
