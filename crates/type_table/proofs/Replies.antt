@@ -20,6 +20,7 @@ use Rattle.model.specs.Told.{done, refused}
 use Rattle.laws.specs.Good.{EntriesGood, Shallow}
 use Rattle.laws.specs.Growth.{EntriesKept}
 use Rattle.laws.proofs.Entries.{lt-or-ge, more-length, more-old, more-last}
+use Rattle.laws.proofs.StepSound.{none-deep}
 use Rattle.laws.proofs.Negation.{Grown, neg-grown, Deep, neg-deep}
 use Rattle.image.specs.Shown.{Within, storeOf, entriesOf, entriesTo}
 use Rattle.type_table.specs.Made.{madeReply}
@@ -57,11 +58,6 @@ some-deep (e ∷ es) (suc i) lt h = rw (some-deep es i (omega arith) h) (or-true
     or-true : (b : Bool) → (b || true) ≡ true
     or-true true = refl
     or-true false = refl
-
-pub none-deep : (es : List Entry) → Shallow es → tooDeep es ≡ false
-unfolding tooDeep any
-none-deep [] h = refl
-none-deep (e ∷ es) h = rw (le-ltb spreadMost (e .spread) (h 0 (omega arith)), none-deep es (λ i lt. h (suc i) (omega arith)))
 
 -- all that is made lies under the entry answered
 pub deep-by-last : (es : List Entry) (m : Making) → Shallow es → length es ≤ length (m .after) → EntriesKept es (m .after) → m .number < length (m .after)

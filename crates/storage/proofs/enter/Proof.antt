@@ -1,0 +1,47 @@
+use borrow.Author.Needs.{needs}
+use Rattle.storage.proofs.enter.Statement.{statement}
+use Rattle.storage.proofs.enter.Tie as tie
+use Rattle.storage.proofs.enter.Reads as reads
+use Rattle.storage.proofs.enter.Lts as lts
+use Rattle.image.proofs.level.Reads as level-reads
+use Rattle.image.proofs.put_current_level.Reads as put-current-level-reads
+
+-- src/lib.rt:147:9
+level-requires : tie.Need-level-requires
+level-requires c κs = ?
+
+-- src/lib.rt:149:9
+same-length : tie.Need-same-length
+same-length c = search needs
+
+-- src/lib.rt:149:9
+returns : tie.Need-returns
+returns c = ?
+
+-- src/lib.rt:151:37
+add-put-current-level : tie.Need-add-put-current-level
+add-put-current-level c = search needs
+
+-- src/lib.rt:151:5
+put-current-level-requires : tie.Need-put-current-level-requires
+put-current-level-requires c κs = search needs
+
+-- src/lib.rt:142:1
+same-length-2 : tie.Need-same-length-2
+same-length-2 c = search needs
+
+-- src/lib.rt:142:1
+returns-2 : tie.Need-returns-2
+returns-2 c = ?
+
+pub enter-spec : {M : Type 1} → statement M
+enter-spec =
+    tie.close
+    (tie.spec
+    level-requires
+    same-length
+    returns
+    add-put-current-level
+    put-current-level-requires
+    same-length-2
+    returns-2)
