@@ -1,3 +1,6 @@
+use native.Mathlib.Omega.{arith}
+use Rattle.image.proofs.Laying.{shown-laid}
+use Rattle.storage.proofs.Told.{enter-refused, entered}
 use borrow.Author.Needs.{needs}
 use Rattle.storage.proofs.enter.Statement.{statement}
 use Rattle.storage.proofs.enter.Tie as tie
@@ -8,7 +11,8 @@ use Rattle.image.proofs.put_current_level.Reads as put-current-level-reads
 
 -- src/lib.rt:147:9
 level-requires : tie.Need-level-requires
-level-requires c κs = ?
+level-requires c κs =
+    shown-laid (c .before .before .pre)
 
 -- src/lib.rt:149:9
 same-length : tie.Need-same-length
@@ -16,7 +20,8 @@ same-length c = search needs
 
 -- src/lib.rt:149:9
 returns : tie.Need-returns
-returns c = ?
+returns c =
+    enter-refused _ _ (c .before .level .ensures) (c .if1 .taken)
 
 -- src/lib.rt:151:37
 add-put-current-level : tie.Need-add-put-current-level
@@ -32,7 +37,8 @@ same-length-2 c = search needs
 
 -- src/lib.rt:142:1
 returns-2 : tie.Need-returns-2
-returns-2 c = ?
+returns-2 c =
+    entered _ _ (c .before .before .before .before .before .level .ensures) (omega (arith, c .before .before .before .before .if1 .left)) _ (c .before .before .put-current-level .ensures)
 
 pub enter-spec : {M : Type 1} → statement M
 enter-spec =

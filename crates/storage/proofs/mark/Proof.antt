@@ -1,3 +1,4 @@
+use Rattle.model.specs.Making.{markEntry}
 use borrow.Author.Needs.{needs}
 use Rattle.storage.proofs.mark.Statement.{statement}
 use Rattle.storage.proofs.mark.Tie as tie
@@ -15,7 +16,9 @@ same-length c = search needs
 
 -- src/lib.rt:124:1
 returns : tie.Need-returns
-returns c = ?
+unfolding markEntry
+returns c =
+    c .before .before .put-mark .ensures .is
 
 pub mark-spec : {M : Type 1} → statement M
 mark-spec = tie.close (tie.spec put-mark-requires same-length returns)

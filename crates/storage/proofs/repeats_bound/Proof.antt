@@ -1,3 +1,4 @@
+use Rattle.storage.proofs.Told.{scanned, not-scanned}
 use borrow.Author.Needs.{needs}
 use Rattle.storage.proofs.repeats_bound.Statement.{statement}
 use Rattle.storage.proofs.repeats_bound.Tie as tie
@@ -12,7 +13,8 @@ count-bounds-requires c κs = search needs
 
 -- src/lib.rt:101:9
 returns : tie.Need-returns
-returns c = ?
+returns c =
+    not-scanned _ _ _ (c .before .count-bounds .ensures) (c .if1 .taken)
 
 -- src/lib.rt:103:5
 has-bound-requires : tie.Need-has-bound-requires
@@ -20,7 +22,8 @@ has-bound-requires c κs = search needs
 
 -- src/lib.rt:95:1
 returns-2 : tie.Need-returns-2
-returns-2 c = ?
+returns-2 c =
+    scanned _ _ _ _ (c .before .before .count-bounds .ensures) (c .before .if1 .left) (c .has-bound .ensures)
 
 pub repeats-bound-spec : {M : Type 1} → statement M
 repeats-bound-spec =
