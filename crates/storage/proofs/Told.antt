@@ -1,17 +1,15 @@
 -- What putting a bound, entering and leaving a level tell, and the words they leave. Assumes nothing.
 use Prim.Native.Nat.{ℕ, suc, _+_, _-_, _≤_, _<_}
 use native.Mathlib.Omega.{arith}
-use native.Mathlib.Numerals.{add-one}
-use mathlib.Core.Path.{_≡_, refl, sym, ap, _∙_}
+use mathlib.Core.Path.{_≡_, sym, ap, _∙_}
 use mathlib.Core.List.{List, [], _∷_, _++_}
-use mathlib.Core.Bool.{Bool, true, false, _&&_}
+use mathlib.Core.Bool.{Bool, true, false}
 use lib.ListN.{length, length-append}
 use lib.Dec.{T, eqb}
-use borrow.Author.Tests.{lt-ltb, le-ltb, le-leb, lt-leb, eq-eqb, ne-eqb}
-use Rattle.instalments.specs.Machine.{Room, enough, lacks}
+use borrow.Author.Tests.{lt-ltb, le-ltb, le-leb, lt-leb, ne-eqb}
 use Rattle.model.specs.Lists.{any}
 use Rattle.model.specs.Format.{wordEnd, boundsRegion, scanMost}
-use Rattle.model.specs.Table.{Bound, Store, withBounds, withLevel}
+use Rattle.model.specs.Table.{Bound, withBounds}
 use Rattle.model.specs.Image.{words, table}
 use Rattle.model.specs.Formed.{wellFormed}
 use Rattle.model.specs.Making.{boundsIn, repeats, addBound}
@@ -20,7 +18,7 @@ use Rattle.model.specs.Calls.{Reply, replyOf, leaveBy, leaveIfRoom, whenLevel, 
 use Rattle.model.specs.Told.{Told, done, refused}
 use Rattle.laws.proofs.Formed.{sound-table}
 use Rattle.laws.proofs.StepSound.{fitting-enough}
-use Rattle.image.specs.Shown.{Shows, Shown, storeOf, boundsAll, pendingIn, boundsTo, levelTo}
+use Rattle.image.specs.Shown.{Shows, storeOf, boundsAll, pendingIn, boundsTo, levelTo}
 use Rattle.image.proofs.Laying.{formed-shown}
 use Rattle.storage.specs.Replies.{boundReply, enterReply, exitReply}
 
@@ -74,8 +72,11 @@ module _ (w : List ℕ) (v side b : ℕ) (good : T (wellFormed w)) where
     done-reply h =
         let s = sound-table w good in
         let k = s .store .held in
-        rw (r, fitting-enough (withBounds more (storeOf w)) (length (pendingIn w))
-        (record { entries = k .entries; fields = k .fields; bounds = omega (arith, more-length); visited = k .visited; equals = k .equals }) (s .pending .held) (s .store .shallow))
+        rw (
+          r,
+          fitting-enough (withBounds more (storeOf w)) (length (pendingIn w))
+              (record { entries = k .entries; fields = k .fields; bounds = omega (arith, more-length); visited = k .visited; equals = k .equals }) (s .pending .held) (s .store .shallow),
+        )
 
     pub bound-done : n < room → (u : List ℕ) → Shows u (boundsTo w (boundsAll w ++ (record { variable = v; side = side; bound = b } ∷ []))) → Replied (boundReply w v side b) (done []) u
     bound-done h u su = let q = replied _ _ (done-reply (omega arith)) in (q .0, su .is ∙ q .1)

@@ -42,11 +42,7 @@ fn belongs(image: &[u32], i: u32, v: u32, side: u32) -> bool
 fn bit(passed: bool) -> u32
     ensures { λ r. ⌜ (r ≡ bit passed) × (r ≤ 1) ⌝ }
 {
-    if passed {
-        1
-    } else {
-        0
-    }
+    if passed { 1 } else { 0 }
 }
 
 // How many bounds v has on a side, among the first n records.

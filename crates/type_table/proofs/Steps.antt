@@ -3,7 +3,6 @@ use Prim.Native.Nat.{ℕ, suc, _+_, _≤_, _<_}
 use native.Mathlib.Omega.{arith}
 use mathlib.Core.Path.{_≡_, refl, sym, ap, subst, _∙_}
 use mathlib.Core.List.{List, [], _∷_, _++_}
-use mathlib.Core.Bool.{true, false}
 use lib.ListN.{length}
 use lib.Dec.{T}
 use borrow.Author.Tests.{le-leb, lt-leb, lt-ltb, le-ltb}
@@ -14,7 +13,6 @@ use Rattle.model.specs.Formed.{wellFormed}
 use Rattle.model.specs.Making.{Making, spreadAt, spreadOf, putEntry, newEntry, changed, withNegation}
 use Rattle.model.specs.Calls.{Reply}
 use Rattle.model.specs.Told.{Told, done, refused}
-use Rattle.laws.specs.Good.{Shallow}
 use Rattle.laws.proofs.Entries.{more-length, new-length}
 use Rattle.laws.proofs.Formed.{sound-table}
 use Rattle.image.specs.Shown.{Shows, Shown, storeOf, entriesOf, entriesTo}
@@ -68,9 +66,10 @@ module _ (w : List ℕ) (kind x y : ℕ) (good : T (wellFormed w)) where
     make-done d v shows =
         let m : Making = newEntry (entriesOf w) kind x y in
         let q = replied w m _ (made-done w m (formed-shown w good .within) fits
-        (put-too-deep (entriesOf w) kind x y 0 0 (sound-table w good .store .shallow) ∙ le-ltb spreadMost (spreadOf (entriesOf w) kind x y) (omega arith))) in
-        (ap (λ (i : ℕ). done (i ∷ [])) n ∙ q .0,
-        shows .is ∙ ap (λ (i : ℕ). words (entriesTo w (entriesOf w ++ (entryMade kind x y 0 0 i ∷ [])))) s ∙ q .1)
+        (put-too-deep (entriesOf w) kind x y 0 0 (sound-table w good .store .shallow) ∙ le-ltb spreadMost (spreadOf (entriesOf w) kind x y) (omega arith))) in (
+          ap (λ (i : ℕ). done (i ∷ [])) n ∙ q .0,
+          shows .is ∙ ap (λ (i : ℕ). words (entriesTo w (entriesOf w ++ (entryMade kind x y 0 0 i ∷ [])))) s ∙ q .1,
+        )
 
 -- an entry added and cached
 module _ (w : List ℕ) (kind x y spread n number room : ℕ) (shows : Shown w) (e : number ≡ length (entriesOf w)) (r : room ≡ storeOf w .capacities .entries) where

@@ -20,12 +20,16 @@ ghost use Rattle.type_table.specs.Made.{madeReply, attrsetReply, firstFi
 
 // The kinds that negation knows, and the one that has fields.
 const ATTRSET: u32 = 4;
+
 const NEG: u32 = 6;
+
 const INTER: u32 = 7;
+
 const UNION: u32 = 8;
 
 // The region that lacks a record.
 const ENTRIES: u32 = 1;
+
 const FIELDS: u32 = 2;
 
 // No new entry spreads further.
@@ -33,9 +37,13 @@ const SPREAD_MOST: u32 = 1024;
 
 // Where an entry has its words.
 const KIND: usize = 0;
+
 const X: usize = 1;
+
 const Y: usize = 2;
+
 const SPREAD: usize = 5;
+
 const NEGATION: usize = 6;
 
 // How far an entry of this kind, with these words, spreads.
@@ -159,7 +167,7 @@ pub fn make_neg(image: &mut [u32], n: u32) -> Made
     let old = image::entries_count(image);
     let Negated::Number(k) = negate(image, n) else {
         undo(image, old);
-        return Made::Refused(Refusal::NoRoom(ENTRIES));
+        return Made::Refused(Refusal::NoRoom(ENTRIES)); // however deep it would go
     };
     if SPREAD_MOST < image::entry_word(image, k, SPREAD) {
         undo(image, old);
@@ -187,11 +195,7 @@ fn put_fields(image: &mut [u32], fields: &[u32], n: usize)
 fn first_field(old: u32, count: u32) -> u32
     ensures { λ r. ⌜ r ≡ firstField old count ⌝ }
 {
-    if count == 0 {
-        0
-    } else {
-        old
-    }
+    if count == 0 { 0 } else { old }
 }
 
 // The dynamic type, or 0.
@@ -218,11 +222,7 @@ fn dynamic_bit(dynamic: Dynamic) -> u32
 fn open_bit(is_open: bool) -> u32
     ensures { λ r. ⌜ (r ≡ openFlag * bit is_open) × (r ≤ 2) ⌝ }
 {
-    if is_open {
-        image::OPEN_FLAG
-    } else {
-        0
-    }
+    if is_open { image::OPEN_FLAG } else { 0 }
 }
 
 // A word as an index.

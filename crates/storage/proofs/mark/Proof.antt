@@ -2,19 +2,13 @@ use Rattle.model.specs.Making.{markEntry}
 use borrow.Author.Needs.{needs}
 use Rattle.storage.proofs.mark.Statement.{statement}
 use Rattle.storage.proofs.mark.Tie as tie
-use Rattle.storage.proofs.mark.Reads as reads
-use Rattle.storage.proofs.mark.Lts as lts
-use Rattle.image.proofs.put_mark.Reads as put-mark-reads
 
--- src/lib.rt:129:5
 put-mark-requires : tie.Need-put-mark-requires
 put-mark-requires c κs = search needs
 
--- src/lib.rt:124:1
 same-length : tie.Need-same-length
 same-length c = search needs
 
--- src/lib.rt:124:1
 returns : tie.Need-returns
 unfolding markEntry
 returns c =

@@ -1,27 +1,21 @@
 use native.Mathlib.Omega.{arith}
-use mathlib.Core.Path.{_≡_, refl}
+use mathlib.Core.Path.{refl}
 use Rattle.model.specs.Calls.{dynamicBit}
 use borrow.Author.Needs.{needs}
 use Rattle.type_table.proofs.dynamic_bit.Statement.{statement}
 use Rattle.type_table.proofs.dynamic_bit.Tie as tie
-use Rattle.type_table.proofs.dynamic_bit.Reads as reads
-use Rattle.type_table.proofs.dynamic_bit.Lts as lts
 
--- src/lib.rt:212:28
 enum-told : tie.Need-enum-told
 enum-told c = search needs
 
--- src/lib.rt:213:32
 enum-told-2 : tie.Need-enum-told-2
 enum-told-2 c = search needs
 
--- src/lib.rt:208:1
 returns : tie.Need-returns
 unfolding dynamicBit
 returns c =
     rw (c .enum-told .given .1) (refl, omega arith)
 
--- src/lib.rt:208:1
 returns-2 : tie.Need-returns-2
 unfolding dynamicBit
 returns-2 c =

@@ -1,26 +1,19 @@
-use mathlib.Core.Path.{_≡_, refl}
 use Rattle.model.specs.Calls.{dynamicType}
 use borrow.Author.Needs.{needs}
 use Rattle.type_table.proofs.dynamic_type.Statement.{statement}
 use Rattle.type_table.proofs.dynamic_type.Tie as tie
-use Rattle.type_table.proofs.dynamic_type.Reads as reads
-use Rattle.type_table.proofs.dynamic_type.Lts as lts
 
--- src/lib.rt:202:28
 enum-told : tie.Need-enum-told
 enum-told c = search needs
 
--- src/lib.rt:203:26
 enum-known-dynamic : tie.Need-enum-known-dynamic
 enum-known-dynamic c = search needs
 
--- src/lib.rt:198:1
 returns : tie.Need-returns
 unfolding dynamicType
 returns c =
     rw (c .enum-told .given .1)
 
--- src/lib.rt:198:1
 returns-2 : tie.Need-returns-2
 unfolding dynamicType
 returns-2 c =

@@ -1,16 +1,11 @@
-use mathlib.Core.Path.{_≡_, refl}
 use borrow.Author.Tests.{eq-eqb, ne-eqb}
 use Rattle.type_table.proofs.first_field.Statement.{statement}
 use Rattle.type_table.proofs.first_field.Tie as tie
-use Rattle.type_table.proofs.first_field.Reads as reads
-use Rattle.type_table.proofs.first_field.Lts as lts
 
--- src/lib.rt:187:1
 returns : tie.Need-returns
 returns c =
     rw (eq-eqb _ _ (c .if1 .taken))
 
--- src/lib.rt:187:1
 returns-2 : tie.Need-returns-2
 returns-2 c =
     rw (ne-eqb _ _ (c .if1 .left))

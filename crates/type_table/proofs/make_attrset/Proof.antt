@@ -1,71 +1,48 @@
 use Prim.Native.Nat.{_+_}
 use native.Mathlib.Omega.{arith}
-use mathlib.Core.Path.{_≡_, refl, sym, ap, _∙_}
+use mathlib.Core.Path.{sym}
 use denote.Ref.{now}
 use Rattle.image.proofs.Laying.{formed-shown, formed-laid, shown}
 use Rattle.type_table.proofs.Attrsets.{fields-count, entry-room, attrset-full, attrset-lacks, attrset-done}
 use borrow.Author.Needs.{needs}
 use Rattle.type_table.proofs.make_attrset.Statement.{statement}
 use Rattle.type_table.proofs.make_attrset.Tie as tie
-use Rattle.type_table.proofs.make_attrset.Reads as reads
-use Rattle.type_table.proofs.make_attrset.Lts as lts
-use Rattle.image.proofs.entries_capacity.Reads as entries-capacity-reads
-use Rattle.image.proofs.entries_count.Reads as entries-count-reads
-use Rattle.image.proofs.fields_capacity.Reads as fields-capacity-reads
-use Rattle.image.proofs.fields_count.Reads as fields-count-reads
-use Rattle.image.proofs.push_entry.Reads as push-entry-reads
-use Rattle.type_table.proofs.dynamic_bit.Reads as dynamic-bit-reads
-use Rattle.type_table.proofs.dynamic_type.Reads as dynamic-type-reads
-use Rattle.type_table.proofs.first_field.Reads as first-field-reads
-use Rattle.type_table.proofs.open_bit.Reads as open-bit-reads
-use Rattle.type_table.proofs.put_fields.Reads as put-fields-reads
-use Rattle.type_table.proofs.wide.Reads as wide-reads
 
--- src/lib.rt:241:9
 entries-count-requires : tie.Need-entries-count-requires
 entries-count-requires c κs =
     formed-laid _ (c .before .before .before .pre)
 
--- src/lib.rt:242:8
 entries-capacity-requires : tie.Need-entries-capacity-requires
 entries-capacity-requires c κs =
     formed-laid _ (c .before .before .before .before .before .pre)
 
--- src/lib.rt:243:9
 same-length : tie.Need-same-length
 same-length c = search needs
 
--- src/lib.rt:243:9
 returns : tie.Need-returns
 returns c =
     let s = c .before .before .before .before .before .before .before in
     let a = s .args in
     attrset-full (now (a .image)) (now (a .fields)) (a .is-open) (a .dynamic) (s .pre) _ _ (c .before .before .before .entries-count .ensures) (c .before .entries-capacity .ensures) (c .if1 .taken)
 
--- src/lib.rt:245:9
 fields-count-requires : tie.Need-fields-count-requires
 fields-count-requires c κs =
     formed-laid _ (c .before .before .before .before .before .before .before .before .pre)
 
--- src/lib.rt:246:16
 fields-capacity-requires : tie.Need-fields-capacity-requires
 fields-capacity-requires c κs =
     formed-laid _ (c .before .before .before .before .before .before .before .before .before .before .pre)
 
--- src/lib.rt:246:16
 sub-room : tie.Need-sub-room
 sub-room c =
     omega (arith, c .fields-capacity .ensures, c .before .before .fields-count .ensures, formed-shown _ (c .before .before .before .before .before .before .before .before .before .before .before .pre) .within .held .fields)
 
--- src/lib.rt:248:8
 wide-requires : tie.Need-wide-requires
 wide-requires c κs = search needs
 
--- src/lib.rt:249:9
 same-length-2 : tie.Need-same-length-2
 same-length-2 c = search needs
 
--- src/lib.rt:249:9
 returns-2 : tie.Need-returns-2
 returns-2 c =
     let s = c .before .before .before .before .before .before .before .before .before .before .before .before .before in
@@ -73,46 +50,36 @@ returns-2 c =
     attrset-lacks (now (a .image)) (now (a .fields)) (a .is-open) (a .dynamic) (s .pre) _ _ (c .before .before .before .before .before .before .before .before .before .entries-count .ensures) (c .before .before .before .before .before .before .before .entries-capacity .ensures) _ _ _ (c .before .before .before .before .before .before .if1 .left)
     (c .before .before .before .before .fields-count .ensures) (c .before .before .fields-capacity .ensures) (sym (fields-count (now (a .fields)))) (omega (arith, c .before .wide .ensures, c .if2 .taken))
 
--- src/lib.rt:251:5
 put-fields-requires : tie.Need-put-fields-requires
 put-fields-requires c κs =
     let s = c .before .before .before .before .before .before .before .before .before .before .before .before .before .before in
     (formed-shown _ (s .pre), (sym (fields-count (now (s .args .fields))), omega (arith, formed-shown _ (s .pre) .within .held .fields, c .before .before .before .before .before .fields-count .ensures, c .before .before .before .fields-capacity .ensures, c .before .before .wide .ensures, c .before .if2 .left)))
 
--- src/lib.rt:252:17
 cast-count : tie.Need-cast-count
 cast-count c = search needs
 
--- src/lib.rt:253:9
 first-field-requires : tie.Need-first-field-requires
 first-field-requires c κs = search needs
 
--- src/lib.rt:254:9
 dynamic-type-requires : tie.Need-dynamic-type-requires
 dynamic-type-requires c κs = search needs
 
--- src/lib.rt:255:17
 open-bit-requires : tie.Need-open-bit-requires
 open-bit-requires c κs = search needs
 
--- src/lib.rt:255:37
 dynamic-bit-requires : tie.Need-dynamic-bit-requires
 dynamic-bit-requires c κs = search needs
 
--- src/lib.rt:255:17
 add-flags : tie.Need-add-flags
 add-flags c = search needs
 
--- src/lib.rt:256:5
 push-entry-requires : tie.Need-push-entry-requires
 push-entry-requires c κs =
     (shown (c .before .before .before .before .before .before .before .put-fields .ensures), entry-room _ _ _ (c .before .before .before .before .before .before .before .put-fields .ensures) (omega (arith, c .before .before .before .before .before .before .before .before .before .before .before .before .before .before .before .before .before .before .entries-count .ensures, c .before .before .before .before .before .before .before .before .before .before .before .before .before .before .before .before .entries-capacity .ensures, c .before .before .before .before .before .before .before .before .before .before .before .before .before .before .before .if1 .left)))
 
--- src/lib.rt:236:1
 same-length-3 : tie.Need-same-length-3
 same-length-3 c = search needs
 
--- src/lib.rt:236:1
 returns-3 : tie.Need-returns-3
 returns-3 c =
     let s = c .before .before .before .before .before .before .before .before .before .before .before .before .before .before .before .before .before .before .before .before .before .before .before .before .before in

@@ -1,13 +1,9 @@
 use Prim.Native.Nat.{_-_}
 use native.Mathlib.Omega.{arith}
-use mathlib.Core.Path.{_≡_, refl, sym, ap, _∙_}
 use denote.Ref.{now}
 use Rattle.type_table.proofs.Attrsets.{fields-inside, Fielded, fielded-start, fielded-shows, fielded-room, fielded-more, fielded-end, same-length as as-long}
 use Rattle.type_table.proofs.put_fields.Statement.{statement}
 use Rattle.type_table.proofs.put_fields.Tie as tie
-use Rattle.type_table.proofs.put_fields.Reads as reads
-use Rattle.type_table.proofs.put_fields.Lts as lts
-use Rattle.image.proofs.push_field.Reads as push-field-reads
 
 abbrev Inv-loop : tie.InvT-loop
 Inv-loop image₀ fields n i₀ image i = Fielded image₀ fields i image
@@ -15,95 +11,79 @@ Inv-loop image₀ fields n i₀ image i = Fielded image₀ fields i image
 abbrev μ-loop : tie.MeasureT-loop
 μ-loop image₀ fields n i₀ image i = n - i
 
--- src/lib.rt:179:5
 loop-holds : tie.Need-loop-holds Inv-loop μ-loop
 loop-holds c =
     fielded-start _ _ (c .before .before .pre .0)
 
--- src/lib.rt:180:18
 mul-at : tie.Need-mul-at Inv-loop μ-loop
 mul-at c =
     let s = c .before .before .before .before in
     omega (arith, fields-inside (now (s .args .fields)) (s .args .n) (c .before .loop .i) (s .pre .1 .0) (c .loop-test .taken))
 
--- src/lib.rt:181:34
 mul-push-field : tie.Need-mul-push-field Inv-loop μ-loop
 mul-push-field c =
     let s = c .before .before .before .before .before in
     omega (arith, fields-inside (now (s .args .fields)) (s .args .n) (c .before .before .loop .i) (s .pre .1 .0) (c .before .loop-test .taken))
 
--- src/lib.rt:181:34
 shared-slice-read-push-field : tie.Need-shared-slice-read-push-field Inv-loop μ-loop
 shared-slice-read-push-field c =
     let s = c .before .before .before .before .before .before in
     omega (arith, fields-inside (now (s .args .fields)) (s .args .n) (c .before .before .before .loop .i) (s .pre .1 .0) (c .before .before .loop-test .taken))
 
--- src/lib.rt:181:53
 add-push-field : tie.Need-add-push-field Inv-loop μ-loop
 add-push-field c =
     let s = c .before .before .before .before .before .before in
     omega (arith, fields-inside (now (s .args .fields)) (s .args .n) (c .before .before .before .loop .i) (s .pre .1 .0) (c .before .before .loop-test .taken))
 
--- src/lib.rt:181:46
 mul-push-field-2 : tie.Need-mul-push-field-2 Inv-loop μ-loop
 mul-push-field-2 c =
     let s = c .before .before .before .before .before .before in
     omega (arith, fields-inside (now (s .args .fields)) (s .args .n) (c .before .before .before .loop .i) (s .pre .1 .0) (c .before .before .loop-test .taken))
 
--- src/lib.rt:181:46
 shared-slice-read-push-field-2 : tie.Need-shared-slice-read-push-field-2 Inv-loop μ-loop
 shared-slice-read-push-field-2 c =
     let s = c .before .before .before .before .before .before .before in
     omega (arith, fields-inside (now (s .args .fields)) (s .args .n) (c .before .before .before .before .loop .i) (s .pre .1 .0) (c .before .before .before .loop-test .taken))
 
--- src/lib.rt:181:69
 add-push-field-2 : tie.Need-add-push-field-2 Inv-loop μ-loop
 add-push-field-2 c =
     let s = c .before .before .before .before .before .before .before in
     omega (arith, fields-inside (now (s .args .fields)) (s .args .n) (c .before .before .before .before .loop .i) (s .pre .1 .0) (c .before .before .before .loop-test .taken))
 
--- src/lib.rt:181:62
 mul-push-field-3 : tie.Need-mul-push-field-3 Inv-loop μ-loop
 mul-push-field-3 c =
     let s = c .before .before .before .before .before .before .before in
     omega (arith, fields-inside (now (s .args .fields)) (s .args .n) (c .before .before .before .before .loop .i) (s .pre .1 .0) (c .before .before .before .loop-test .taken))
 
--- src/lib.rt:181:62
 shared-slice-read-push-field-3 : tie.Need-shared-slice-read-push-field-3 Inv-loop μ-loop
 shared-slice-read-push-field-3 c =
     let s = c .before .before .before .before .before .before .before .before in
     omega (arith, fields-inside (now (s .args .fields)) (s .args .n) (c .before .before .before .before .before .loop .i) (s .pre .1 .0) (c .before .before .before .before .loop-test .taken))
 
--- src/lib.rt:181:9
 push-field-requires : tie.Need-push-field-requires Inv-loop μ-loop
 push-field-requires c κs =
     let s = c .before .before .before .before .before .before .before .before in
     let p = c .before .before .before .before .before .loop .inv in
     (fielded-shows _ _ _ _ p, fielded-room _ _ _ _ p _ (s .pre .1 .0) (c .before .before .before .before .loop-test .taken) (s .pre .1 .1))
 
--- src/lib.rt:182:9
 add-i : tie.Need-add-i Inv-loop μ-loop
 add-i c =
     omega arith
 
--- src/lib.rt:179:5
 loop-less : tie.Need-loop-less Inv-loop μ-loop
 loop-less c =
     omega arith
 
--- src/lib.rt:179:5
 loop-again : tie.Need-loop-again Inv-loop μ-loop
 loop-again c =
     let s = c .before .before .before .before .before .before .before .before .before .before .before in
     fielded-more _ _ _ _ (c .before .before .before .before .before .before .before .before .loop .inv) _ (omega (arith, s .pre .1 .0, c .before .before .before .before .before .before .before .loop-test .taken)) (c .before .before .push-field .ensures)
 
--- src/lib.rt:172:1
 same-length : tie.Need-same-length Inv-loop μ-loop
 same-length c =
     let s = c .before .before .before .before in
     as-long _ _ _ (s .pre .0) (fielded-end _ _ _ _ (c .before .loop .inv) (omega (arith, s .pre .1 .0, c .loop-test .left)))
 
--- src/lib.rt:172:1
 returns : tie.Need-returns Inv-loop μ-loop
 returns c =
     let s = c .before .before .before .before in
