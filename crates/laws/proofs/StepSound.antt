@@ -6,7 +6,7 @@ use mathlib.Core.List.{List, [], _∷_, _++_, reverse, reverseAux}
 use mathlib.Core.Bool.{Bool, true, false, cond, _||_}
 use lib.ListN.{length, length-append, length-reverse}
 use lib.Dec.{T, ltb}
-use borrow.Author.Tests.{ltb-false}
+use borrow.Author.Tests.{ltb-false, le-ltb}
 use Rattle.instalments.specs.Machine.{Outcome, fails, goes, Room, enough, lacks, work, instalments}
 use Rattle.instalments.proofs.Kept.{Kept, work-kept, instalments-kept}
 use Rattle.model.specs.Lists.{all, any}
@@ -17,7 +17,7 @@ use Rattle.model.specs.Formed.{isEntry, pairRight}
 use Rattle.model.specs.Rules.{rule}
 use Rattle.model.specs.Room.{fitting, roomFor, room}
 use Rattle.model.specs.declared.Failure.{Failure}
-use Rattle.laws.specs.Good.{Good, Small, Shallow, SoundStore, PendingRight}
+use Rattle.laws.specs.Good.{Good, Small, Held, Shallow, SoundStore, PendingRight}
 use Rattle.laws.specs.Growth.{Appends}
 use Rattle.laws.proofs.Tests.{both, first, second, all-append, all-left, all-right, all-empty, lt-of}
 use Rattle.laws.proofs.Entries.{pairs-more}
@@ -38,6 +38,17 @@ unfolding tooDeep any
 not-deep [] e i lt = absurd (omega arith)
 not-deep (d ∷ es) e zero lt = ltb-false spreadMost (d .spread) (neither (ltb spreadMost (d .spread)) (tooDeep es) e .0)
 not-deep (d ∷ es) e (suc i) lt = not-deep es (neither (ltb spreadMost (d .spread)) (tooDeep es) e .1) i (omega arith)
+
+pub none-deep : (es : List Entry) → Shallow es → tooDeep es ≡ false
+unfolding tooDeep any
+none-deep [] h = refl
+none-deep (e ∷ es) h = rw (le-ltb spreadMost (e .spread) (h 0 (omega arith)), none-deep es (λ i lt. h (suc i) (omega arith)))
+
+-- the other way round: no count passes its capacity, and no entry is too deep
+pub fitting-enough : (u : Store) (n : ℕ) → Held u → n ≤ u .capacities .pending → Shallow (u .entries) → fitting u n ≡ enough
+unfolding fitting
+fitting-enough u n h p s =
+    rw (le-ltb _ _ (h .entries), le-ltb _ _ (h .fields), le-ltb _ _ (h .bounds), le-ltb _ _ (h .visited), le-ltb _ _ p, le-ltb _ _ (h .equals), none-deep (u .entries) s)
 
 pub fitting-sound : (u : Store) (n : ℕ) → Good u → Small (u .capacities) → fitting u n ≡ enough → SoundStore u × (n ≤ u .capacities .pending)
 unfolding fitting

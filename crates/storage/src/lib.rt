@@ -1,15 +1,31 @@
 // Bounds, marks and levels in an image.
+use model::Refusal;
+use model::Reply;
 ghost use mathlib.Core.Path.{_≡_};
 ghost use Prim.Native.Nat.{_<_, _≤_};
 ghost use lib.ListN.{length};
-ghost use lib.Dec.{eqb};
+ghost use lib.Dec.{T, eqb};
 ghost use Rattle.model.specs.Lists.{any};
-ghost use Rattle.model.specs.Making.{boundsIn};
-ghost use Rattle.model.specs.Told.{bit};
+ghost use Rattle.model.specs.Table.{tableOf};
+ghost use Rattle.model.specs.Image.{words};
+ghost use Rattle.model.specs.Making.{boundsIn, repeats, changed, markEntry};
+ghost use Rattle.model.specs.Formed.{wellFormed};
+ghost use Rattle.model.specs.Calls.{withX};
+ghost use Rattle.model.specs.Told.{bit, toldReply};
 ghost use Rattle.image.specs.Laid.{Laid};
-ghost use Rattle.image.specs.Shown.{boundsAll};
+ghost use Rattle.image.specs.Shown.{Shown, storeOf, entriesOf, boundsAll, pendingIn, entriesTo};
 ghost use Rattle.image.specs.Records.{boundAt};
 ghost use Rattle.storage.specs.Bounds.{belongsTo, isBound};
+ghost use Rattle.storage.specs.Replies.{boundReply, enterReply, exitReply};
+
+// A duplicate is looked for while the list holds so many or fewer.
+const SCAN_MOST: u32 = 32;
+
+// The region that lacks a record.
+const BOUNDS: u32 = 3;
+
+// The last level.
+const LEVEL_MOST: u32 = 4294967295;
 
 // Whether bound record i is one of the variable v on that side.
 fn belongs(image: &[u32], i: u32, v: u32, side: u32) -> bool
@@ -69,4 +85,78 @@ pub fn has_bound(image: &[u32], n: u32, v: u32, side: u32, b: u32) -> bool
         i += 1;
     }
     false
+}
+
+// Whether b would repeat a bound of v on a side: a longer list is not scanned.
+pub fn repeats_bound(image: &[u32], n: u32, v: u32, side: u32, b: u32) -> bool
+    requires { ⌜ Laid (now image) ⌝ }
+    requires { ⌜ n ≡ length (boundsAll (now image)) ⌝ }
+    ensures { λ r. ⌜ r ≡ repeats (boundsIn (boundsAll (now (image .entry))) v side) b ⌝ }
+{
+    if SCAN_MOST < count_bounds(image, n, v, side) {
+        return false;
+    }
+    has_bound(image, n, v, side, b)
+}
+
+// Puts b as a bound of v on a side, unless it would repeat one.
+pub fn put_bound(image: &mut [u32], v: u32, side: u32, b: u32) -> Reply
+    requires { ⌜ T (wellFormed (now image)) ⌝ }
+    ensures { λ r. ⌜ toldReply r ≡ boundReply (now (image .entry)) v side b .says ⌝ }
+    ensures { λ _. ⌜ now (image .exit) ≡ boundReply (now (image .entry)) v side b .words ⌝ }
+{
+    let n = image::bounds_count(image);
+    if repeats_bound(image, n, v, side, b) {
+        return Reply::Done;
+    }
+    if image::bounds_capacity(image) <= n {
+        return Reply::Refused(Refusal::NoRoom(BOUNDS));
+    }
+    image::push_bound(image, v, side, b);
+    Reply::Done
+}
+
+// Marks entry n.
+pub fn mark(image: &mut [u32], n: u32)
+    requires { ⌜ Shown (now image) ⌝ }
+    requires { ⌜ n < length (entriesOf (now image)) ⌝ }
+    ensures { λ _. ⌜ now (image .exit) ≡ words (tableOf (markEntry n (storeOf (now (image .entry)))) (pendingIn (now (image .entry)))) ⌝ }
+{
+    image::put_mark(image, n);
+}
+
+// Puts the variable v at level l.
+pub fn set_level(image: &mut [u32], v: u32, l: u32)
+    requires { ⌜ Shown (now image) ⌝ }
+    requires { ⌜ v < length (entriesOf (now image)) ⌝ }
+    ensures { λ _. ⌜ now (image .exit) ≡ words (entriesTo (now (image .entry)) (changed (withX l) (entriesOf (now (image .entry))) v)) ⌝ }
+{
+    image::put_level(image, v, l);
+}
+
+// Enters a level, and leaves it again.
+pub fn enter(image: &mut [u32]) -> Reply
+    requires { ⌜ Shown (now image) ⌝ }
+    ensures { λ r. ⌜ toldReply r ≡ enterReply (now (image .entry)) .says ⌝ }
+    ensures { λ _. ⌜ now (image .exit) ≡ enterReply (now (image .entry)) .words ⌝ }
+{
+    let l = image::level(image);
+    if l == LEVEL_MOST {
+        return Reply::Refused(Refusal::Level);
+    }
+    image::put_current_level(image, l + 1);
+    Reply::Done
+}
+
+pub fn exit(image: &mut [u32]) -> Reply
+    requires { ⌜ Shown (now image) ⌝ }
+    ensures { λ r. ⌜ toldReply r ≡ exitReply (now (image .entry)) .says ⌝ }
+    ensures { λ _. ⌜ now (image .exit) ≡ exitReply (now (image .entry)) .words ⌝ }
+{
+    let l = image::level(image);
+    if l == 0 {
+        return Reply::Refused(Refusal::Level);
+    }
+    image::put_current_level(image, l - 1);
+    Reply::Done
 }

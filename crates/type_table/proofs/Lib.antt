@@ -4,3 +4,4 @@ pub mod Steps
 pub mod Undoing
 pub mod Negating
 pub mod Answers
+pub mod Attrsets

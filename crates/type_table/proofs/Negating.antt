@@ -1,20 +1,19 @@
 -- What is known at each place of the code that makes Neg(n). Assumes nothing.
-use Prim.Native.Nat.{ℕ, suc, _+_, _*_, _-_, _≤_, _<_}
+use Prim.Native.Nat.{ℕ, suc, _+_, _-_, _≤_, _<_}
 use native.Mathlib.Omega.{arith}
 use mathlib.Core.Path.{_≡_, refl, sym, ap, subst, _∙_}
-use mathlib.Core.List.{List, [], _∷_, _++_}
+use mathlib.Core.List.{List}
 use mathlib.Core.Logic.{⊎-elim}
 use lib.ListN.{length}
 use Rattle.model.specs.Format.{spreadMost, neg, inter, union}
 use Rattle.model.specs.Table.{Entry, Field, Table, withEntries, entryAt}
 use Rattle.model.specs.Image.{table}
-use Rattle.model.specs.Making.{Making, spreadAt, spreadOf, putEntry, newEntry, changed, withNegation, cachedAs, makeNeg, undone}
-use Rattle.laws.specs.Good.{EntriesGood, Shallow}
+use Rattle.model.specs.Making.{Making, spreadAt, spreadOf, putEntry, newEntry, withNegation, cachedAs, makeNeg}
+use Rattle.laws.specs.Good.{EntriesGood}
 use Rattle.laws.proofs.Entries.{lt-or-ge, changed-length, new-length, x-known, y-known, spread-known}
 use Rattle.laws.proofs.Undone.{undoable-trans}
 use Rattle.laws.proofs.Negation.{Grown, neg-grown, Deep, deep-within}
-use Rattle.image.specs.Shown.{Within, Shows, Shown, storeOf, entriesOf, fieldsIn}
-use Rattle.image.specs.Records.{entryMade}
+use Rattle.image.specs.Shown.{Shows, Shown, storeOf, entriesOf, fieldsIn}
 use Rattle.image.proofs.Laying.{seen, shown}
 use Rattle.type_table.specs.Made.{entriesIn, Added, CachedLow, Negatable, UndoesTo, NegatedIn}
 use Rattle.type_table.specs.declared.Negated.{Negated}
@@ -58,9 +57,6 @@ module _ (t : Table) (n : ℕ) (v : List ℕ) where
 
 -- nothing is new, or an entry of its own
 module _ (w : List ℕ) (n : ℕ) (r : Negatable w n) where
-  es : List Entry
-  es = entriesOf w
-
   give : (c : ℕ) → makeNeg (entriesOf w) n ≡ record { number = c; after = entriesOf w } → NegatedIn (table w) n (N.Number c) w
   unfolding withEntries
   give c e = record {
@@ -128,12 +124,6 @@ pub record Second (w : List ℕ) (n p q : ℕ) (v : List ℕ) : Type 0 where
   pub low-q : spreadAt (entriesOf v) q ≤ 1049600
 
 module _ (w : List ℕ) (n kind x y : ℕ) (s : Parts w n kind x y) where
-  fs : List Field
-  fs = fieldsIn w
-
-  names : ℕ
-  names = storeOf w .names
-
   below-x : entryAt (entriesOf w) n .x < n
   below-x = x-known (entriesOf w) (fieldsIn w) (storeOf w .names) (s .pre .good) n (s .pre .below) (omega (arith, s .two))
 
@@ -234,8 +224,13 @@ module _ (w : List ℕ) (n kind x y : ℕ) (s : Parts w n kind x y) where
         let b = second-of a N.Full u d e in
         let l = full-lacks t (entryAt (entriesOf w) n .y) u b in
         let k = b .full l .1 in
+        let back : UndoesTo (entriesOf w) (k .0) = record {
+          longer = omega (arith, grown-x .least, k .1 .1 .longer);
+          undo = undoable-trans (entriesOf w) (left (entriesOf w) n .after) (k .0) (grown-x .least) (grown-x .undo) (k .1 .1 .undo);
+        } in
         record {
           done = λ le. absurd (omega (arith, size));
+<<<<<<< HEAD
           full = λ gt. (
             refl,
             (
@@ -249,6 +244,9 @@ module _ (w : List ℕ) (n kind x y : ℕ) (s : Parts w n kind x y) where
               ),
             ),
           );
+=======
+          full = λ gt. (refl, (k .0, (k .1 .0, back)));
+>>>>>>> making
         }
 
     pub done-two : (a : Negated) (u : List ℕ) (q : ℕ) → NegatedIn (table v) y a u → a ≡ N.Number q → Second w n p q u
@@ -287,9 +285,14 @@ module _ (w : List ℕ) (n kind x y : ℕ) (s : Parts w n kind x y) where
       spread-both us k lp lq (omega (arith, kind-low, s .kind-is, s .two)) ∙ sym (rw (ei, ej, g, f .first-number, f .second-number)) in
       let b : Added (entriesIn (table w) us) (inter + union - kind) p q (1 + i + j) n a u = subst (λ (t : Table). Added t (inter + union - kind) p q (1 + i + j) n a u) (seen (f .shows)) d in
       let h : Added (entriesIn (table w) us) k lp lq (1 + i + j) n a u = rw (← s .kind-is, ← f .first-number, ← f .second-number) b in
+      let back : UndoesTo (entriesOf w) us = record {
+        longer = omega (arith, grown-x .least, grown-y .least);
+        undo = undoable-trans (entriesOf w) (left (entriesOf w) n .after) us (grown-x .least) (grown-x .undo) (grown-y .undo);
+      } in
       record {
         done = λ le. rw (over, so) (h .done (omega (arith, size)));
         full = λ gt.
+<<<<<<< HEAD
             let z = h .full (omega (arith, size)) in (
               z .0,
               (
@@ -303,4 +306,7 @@ module _ (w : List ℕ) (n kind x y : ℕ) (s : Parts w n kind x y) where
                 ),
               ),
             );
+=======
+            let z = h .full (omega (arith, size)) in (z .0, (us, (z .1, back)));
+>>>>>>> making
       }

@@ -1,27 +1,27 @@
 -- What a making replies, by the count of entries and the depth; how the depth is told by the last entry. Assumes nothing.
 use Prim.Native.Nat.{ℕ, zero, suc, _+_, _≤_, _<_}
 use native.Mathlib.Omega.{arith}
-use mathlib.Core.Path.{_≡_, refl, sym, ap, _∙_}
+use mathlib.Core.Path.{_≡_, refl, ap}
 use mathlib.Core.List.{List, [], _∷_, _++_}
 use mathlib.Core.Bool.{Bool, true, false, cond, _||_}
 use mathlib.Core.Logic.{_⊎_, ⊎-elim}
 use lib.ListN.{length}
 use lib.Dec.{ltb}
 use borrow.Author.Tests.{lt-ltb, le-ltb, ltb-true, ltb-false}
-use Rattle.instalments.specs.Machine.{Room, enough, lacks}
 use Rattle.model.specs.Lists.{any}
 use Rattle.model.specs.Format.{entriesRegion, spreadMost}
-use Rattle.model.specs.Table.{Entry, Field, Store, Table, tableOf, withEntries, entryAt}
+use Rattle.model.specs.Table.{Entry, Field, withEntries}
 use Rattle.model.specs.Image.{words, table}
-use Rattle.model.specs.Making.{Making, spreadAt, spreadOf, putEntry, newEntry, makeNeg, tooDeep}
+use Rattle.model.specs.Making.{Making, spreadAt, spreadOf, putEntry, makeNeg, tooDeep}
 use Rattle.model.specs.Room.{fitting}
-use Rattle.model.specs.Calls.{Reply, replyOf, leaveBy, leaveIfRoom, madeTurn}
+use Rattle.model.specs.Calls.{replyOf, leaveBy, leaveIfRoom, madeTurn}
 use Rattle.model.specs.Told.{done, refused}
 use Rattle.laws.specs.Good.{EntriesGood, Shallow}
 use Rattle.laws.specs.Growth.{EntriesKept}
 use Rattle.laws.proofs.Entries.{lt-or-ge, more-length, more-old, more-last}
-use Rattle.laws.proofs.Negation.{Grown, neg-grown, Deep, neg-deep}
-use Rattle.image.specs.Shown.{Within, storeOf, entriesOf, entriesTo}
+use Rattle.laws.proofs.StepSound.{none-deep}
+use Rattle.laws.proofs.Negation.{Grown, neg-grown, neg-deep}
+use Rattle.image.specs.Shown.{Within, storeOf, entriesTo}
 use Rattle.type_table.specs.Made.{madeReply}
 
 module _ (w : List ℕ) (m : Making) where
@@ -57,11 +57,6 @@ some-deep (e ∷ es) (suc i) lt h = rw (some-deep es i (omega arith) h) (or-true
     or-true : (b : Bool) → (b || true) ≡ true
     or-true true = refl
     or-true false = refl
-
-pub none-deep : (es : List Entry) → Shallow es → tooDeep es ≡ false
-unfolding tooDeep any
-none-deep [] h = refl
-none-deep (e ∷ es) h = rw (le-ltb spreadMost (e .spread) (h 0 (omega arith)), none-deep es (λ i lt. h (suc i) (omega arith)))
 
 -- all that is made lies under the entry answered
 pub deep-by-last : (es : List Entry) (m : Making) → Shallow es → length es ≤ length (m .after) → EntriesKept es (m .after) → m .number < length (m .after)

@@ -3,7 +3,6 @@ use Prim.Native.Nat.{ℕ, suc, _+_, _≤_, _<_}
 use native.Mathlib.Omega.{arith}
 use mathlib.Core.Path.{_≡_, refl, sym, ap, subst, _∙_}
 use mathlib.Core.List.{List, [], _∷_, _++_}
-use mathlib.Core.Bool.{true, false}
 use lib.ListN.{length}
 use lib.Dec.{T}
 use borrow.Author.Tests.{le-leb, lt-leb, lt-ltb, le-ltb}
@@ -14,7 +13,6 @@ use Rattle.model.specs.Formed.{wellFormed}
 use Rattle.model.specs.Making.{Making, spreadAt, spreadOf, putEntry, newEntry, changed, withNegation}
 use Rattle.model.specs.Calls.{Reply}
 use Rattle.model.specs.Told.{Told, done, refused}
-use Rattle.laws.specs.Good.{Shallow}
 use Rattle.laws.proofs.Entries.{more-length, new-length}
 use Rattle.laws.proofs.Formed.{sound-table}
 use Rattle.image.specs.Shown.{Shows, Shown, storeOf, entriesOf, entriesTo}

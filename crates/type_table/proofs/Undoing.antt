@@ -2,7 +2,7 @@
 use Prim.Native.Nat.{ℕ, _+_, _-_, _≤_, _<_}
 use native.Mathlib.Omega.{arith}
 use mathlib.Core.Path.{_≡_, refl, sym, ap, subst, _∙_}
-use mathlib.Core.List.{List, [], _∷_, _++_}
+use mathlib.Core.List.{List}
 use mathlib.Core.Logic.{⊎-elim}
 use lib.ListN.{length, take}
 use lib.Seq.{take-take, take-length, length-take-le, getD-take}
@@ -13,7 +13,7 @@ use Rattle.model.specs.Making.{changed, withNegation, reset, undone}
 use Rattle.laws.proofs.Entries.{lt-or-ge, same-or-not, changed-length, changed-at, changed-other}
 use Rattle.laws.proofs.Round.{words-length}
 use Rattle.laws.proofs.Undone.{undone-is}
-use Rattle.image.specs.Shown.{Shows, Shown, storeOf, entriesOf, entriesTo}
+use Rattle.image.specs.Shown.{Shows, Shown, entriesOf, entriesTo}
 use Rattle.image.proofs.Laying.{seen, shown}
 use Rattle.type_table.specs.Made.{entriesIn}
 

@@ -3,14 +3,17 @@
 use Prim.Native.Nat.{ℕ, suc, _*_, _≤_, _<_}
 use mathlib.Core.Path.{_≡_}
 use mathlib.Core.List.{List, [], _∷_, _++_}
+use mathlib.Core.Bool.{Bool, cond}
 use lib.ListN.{length}
+use Rattle.model.specs.Lists.{isZero}
 use Rattle.model.specs.Format.{spreadMost, attrset, neg}
 use Rattle.model.specs.Table.{Entry, Table, tableOf, withEntries, entryAt}
 use Rattle.model.specs.Image.{table}
 use Rattle.model.specs.Making.{Making, spreadAt, changed, withNegation, makeNeg, undone}
-use Rattle.model.specs.Calls.{Reply, replyOf, madeTurn}
+use Rattle.model.specs.Calls.{Reply, replyOf, madeTurn, fieldList, newAttrset}
+use Rattle.model.specs.declared.Dynamic.{Dynamic}
 use Rattle.laws.specs.Good.{EntriesGood}
-use Rattle.image.specs.Shown.{Shows, Shown, storeOf, entriesOf, fieldsIn, entriesTo}
+use Rattle.image.specs.Shown.{Shows, Shown, storeOf, entriesOf, fieldsIn, fieldsTo}
 use Rattle.image.specs.Records.{entryMade}
 use Rattle.type_table.specs.declared.Negated.{Negated}
 use Rattle.type_table.specs.declared.Negated.the-variants as N
@@ -18,6 +21,14 @@ use Rattle.type_table.specs.declared.Negated.the-variants as N
 -- the number, or NO ROOM, then TOO DEEP, with every word as found
 abbrev pub madeReply : List ℕ → Making → Reply
 madeReply w m = replyOf w (madeTurn (table w) m)
+
+-- the same for an attrset with these fields: NO ROOM for its entry, then for its fields
+abbrev pub attrsetReply : List ℕ → List ℕ → Bool → Dynamic → Reply
+attrsetReply w l wide d = replyOf w (madeTurn (fieldsTo w (fieldsIn w ++ fieldList l)) (newAttrset (entriesOf w) (fieldsIn w) (fieldList l) wide d))
+
+-- x of an attrset with so many fields, put behind so many
+abbrev pub firstField : ℕ → ℕ → ℕ
+firstField old count = cond (isZero count) 0 old
 
 -- the words of a kind that are components are entries
 abbrev pub Components : List Entry → ℕ → ℕ → ℕ → Type 0

@@ -1,20 +1,26 @@
 // Making entries in an image: each concrete, and negation with its cache. A refusal leaves every word as found.
+use model::Dynamic;
 use model::Made;
 use model::Refusal;
 ghost use mathlib.Core.Path.{_≡_};
-ghost use Prim.Native.Nat.{_≤_, _<_};
+ghost use Prim.Native.Nat.{_+_, _*_, _≤_, _<_};
+ghost use mathlib.Core.List.{_++_};
 ghost use lib.ListN.{length, take};
 ghost use lib.Dec.{T};
 ghost use Rattle.model.specs.Formed.{wellFormed};
 ghost use Rattle.model.specs.Image.{table};
 ghost use Rattle.model.specs.Making.{spreadOf, newEntry, makeNeg, undone};
-ghost use Rattle.model.specs.Told.{toldMade};
+ghost use Rattle.model.specs.Format.{openFlag};
+ghost use Rattle.model.specs.Calls.{fieldList, dynamicType, dynamicBit};
+ghost use Rattle.model.specs.Told.{bit, toldMade};
 ghost use Rattle.laws.specs.Good.{Shallow};
 ghost use Rattle.image.specs.Laid.{Laid};
-ghost use Rattle.image.specs.Shown.{Shows, Shown, entriesOf, entriesTo};
-ghost use Rattle.type_table.specs.Made.{madeReply, Components, Added, Negatable, NegatedIn};
+ghost use Rattle.image.specs.Shown.{Shows, Shown, storeOf, entriesOf, fieldsIn, entriesTo, fieldsTo};
+ghost use Rattle.type_table.specs.Made.{madeReply, attrsetReply, firstField, Components, Added, Negatable, NegatedIn};
 
-// The kinds that negation knows.
+// The kinds that negation knows, and the one that has fields.
+const ATTRSET: u32 = 4;
+
 const NEG: u32 = 6;
 
 const INTER: u32 = 7;
@@ -23,6 +29,8 @@ const UNION: u32 = 8;
 
 // The region that lacks a record.
 const ENTRIES: u32 = 1;
+
+const FIELDS: u32 = 2;
 
 // No new entry spreads further.
 const SPREAD_MOST: u32 = 1024;
@@ -159,11 +167,92 @@ pub fn make_neg(image: &mut [u32], n: u32) -> Made
     let old = image::entries_count(image);
     let Negated::Number(k) = negate(image, n) else {
         undo(image, old);
-        return Made::Refused(Refusal::NoRoom(ENTRIES));
+        return Made::Refused(Refusal::NoRoom(ENTRIES)); // however deep it would go
     };
     if SPREAD_MOST < image::entry_word(image, k, SPREAD) {
         undo(image, old);
         return Made::Refused(Refusal::TooDeep);
     }
     Made::Number(k)
+}
+
+// Puts the n fields of a list behind the last.
+fn put_fields(image: &mut [u32], fields: &[u32], n: usize)
+    requires { ⌜ Shown (now image) ⌝ }
+    requires { ⌜ n ≡ length (fieldList (now fields)) ⌝ }
+    requires { ⌜ length (fieldsIn (now image)) + n ≤ storeOf (now image) .capacities .fields ⌝ }
+    ensures { λ _. ⌜ Shows (now (image .exit)) (fieldsTo (now (image .entry)) (fieldsIn (now (image .entry)) ++ fieldList (now (fields .entry)))) ⌝ }
+{
+    let mut i: usize = 0;
+    while i < n {
+        let at = image::FIELD_WIDTH * i;
+        image::push_field(image, fields[at], fields[at + 1], fields[at + 2]);
+        i += 1;
+    }
+}
+
+// The first field record of an attrset with so many fields, put behind the old ones: 0 if it has none.
+fn first_field(old: u32, count: u32) -> u32
+    ensures { λ r. ⌜ r ≡ firstField old count ⌝ }
+{
+    if count == 0 { 0 } else { old }
+}
+
+// The dynamic type, or 0.
+fn dynamic_type(dynamic: Dynamic) -> u32
+    ensures { λ r. ⌜ r ≡ dynamicType dynamic ⌝ }
+{
+    match dynamic {
+        Dynamic::Absent => 0,
+        Dynamic::Present(n) => n,
+    }
+}
+
+// The flag that says that there is one.
+fn dynamic_bit(dynamic: Dynamic) -> u32
+    ensures { λ r. ⌜ (r ≡ dynamicBit dynamic) × (r ≤ 4) ⌝ }
+{
+    match dynamic {
+        Dynamic::Absent => 0,
+        Dynamic::Present(_) => image::DYNAMIC_FLAG,
+    }
+}
+
+// The flag that says open.
+fn open_bit(is_open: bool) -> u32
+    ensures { λ r. ⌜ (r ≡ openFlag * bit is_open) × (r ≤ 2) ⌝ }
+{
+    if is_open { image::OPEN_FLAG } else { 0 }
+}
+
+// A word as an index.
+fn wide(x: u32) -> usize
+    ensures { λ r. ⌜ r ≡ x ⌝ }
+{
+    x as usize
+}
+
+// Makes an attrset with the fields of a list, triples of a name, an entry and optional.
+pub fn make_attrset(image: &mut [u32], fields: &[u32], is_open: bool, dynamic: Dynamic) -> Made
+    requires { ⌜ T (wellFormed (now image)) ⌝ }
+    ensures { λ r. ⌜ toldMade r ≡ attrsetReply (now (image .entry)) (now (fields .entry)) is_open dynamic .says ⌝ }
+    ensures { λ _. ⌜ now (image .exit) ≡ attrsetReply (now (image .entry)) (now (fields .entry)) is_open dynamic .words ⌝ }
+{
+    let number = image::entries_count(image);
+    if image::entries_capacity(image) <= number {
+        return Made::Refused(Refusal::NoRoom(ENTRIES));
+    }
+    let old = image::fields_count(image);
+    let room = image::fields_capacity(image) - old;
+    let n = fields.len() / image::FIELD_WIDTH;
+    if wide(room) < n {
+        return Made::Refused(Refusal::NoRoom(FIELDS));
+    }
+    put_fields(image, fields, n);
+    let count = n as u32;
+    let first = first_field(old, count);
+    let typed = dynamic_type(dynamic);
+    let flags = open_bit(is_open) + dynamic_bit(dynamic);
+    image::push_entry(image, ATTRSET, first, count, typed, flags, 1);
+    Made::Number(number)
 }

@@ -1,17 +1,11 @@
 use Prim.Native.Nat.{_≤_, _-_}
 use native.Mathlib.Omega.{arith}
-use mathlib.Core.Path.{_≡_, refl, sym, ap, _∙_}
-use mathlib.Core.Bool.{true, false}
 use denote.Ref.{now}
 use borrow.Author.Needs.{needs}
 use Rattle.image.specs.Shown.{boundsAll}
 use Rattle.storage.proofs.Scan.{Counted, count-step, count-done}
 use Rattle.storage.proofs.count_bounds.Statement.{statement}
 use Rattle.storage.proofs.count_bounds.Tie as tie
-use Rattle.storage.proofs.count_bounds.Reads as reads
-use Rattle.storage.proofs.count_bounds.Lts as lts
-use Rattle.storage.proofs.belongs.Reads as belongs-reads
-use Rattle.storage.proofs.bit.Reads as bit-reads
 
 abbrev Inv-loop : tie.InvT-loop
 Inv-loop image n v side found₀ i₀ found i = (i ≤ n) × (found ≤ i) × Counted v side (boundsAll image) i found
@@ -19,33 +13,26 @@ Inv-loop image n v side found₀ i₀ found i = (i ≤ n) × (found ≤ i) × Co
 abbrev μ-loop : tie.MeasureT-loop
 μ-loop image n v side found₀ i₀ found i = n - i
 
--- src/lib.rt:44:5
 loop-holds : tie.Need-loop-holds Inv-loop μ-loop
 loop-holds c = (omega arith, omega arith, omega arith)
 
--- src/lib.rt:45:22
 belongs-requires : tie.Need-belongs-requires Inv-loop μ-loop
 belongs-requires c κs =
     let p = c .before .before .before .pre in
     (p .0, omega (arith, p .1))
 
--- src/lib.rt:45:18
 bit-requires : tie.Need-bit-requires Inv-loop μ-loop
 bit-requires c κs = search needs
 
--- src/lib.rt:45:9
 add-found : tie.Need-add-found Inv-loop μ-loop
 add-found c = omega arith
 
--- src/lib.rt:46:9
 add-i : tie.Need-add-i Inv-loop μ-loop
 add-i c = omega arith
 
--- src/lib.rt:44:5
 loop-less : tie.Need-loop-less Inv-loop μ-loop
 loop-less c = omega arith
 
--- src/lib.rt:44:5
 loop-again : tie.Need-loop-again Inv-loop μ-loop
 loop-again c =
     let l = c .before .before .before .loop in
@@ -53,7 +40,6 @@ loop-again c =
     let bs = boundsAll (now (s .args .image)) in
     (omega arith, omega arith, rw (c .bit .ensures .0, c .before .belongs .ensures) (count-step (s .args .v) (s .args .side) bs (l .i) (omega (arith, s .pre .1)) (l .found) (l .inv .2)))
 
--- src/lib.rt:37:1
 returns : tie.Need-returns Inv-loop μ-loop
 returns c =
     let l = c .before .loop in

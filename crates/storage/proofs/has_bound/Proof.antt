@@ -1,16 +1,11 @@
 use Prim.Native.Nat.{_≤_, _-_}
 use native.Mathlib.Omega.{arith}
-use mathlib.Core.Path.{_≡_, refl, sym, ap, _∙_}
-use mathlib.Core.Bool.{true, false}
+use mathlib.Core.Path.{refl, sym, _∙_}
 use denote.Ref.{now}
-use borrow.Author.Needs.{needs}
 use Rattle.image.specs.Shown.{boundsAll}
 use Rattle.storage.proofs.Scan.{Sought, seek-hit, seek-miss, seek-done}
 use Rattle.storage.proofs.has_bound.Statement.{statement}
 use Rattle.storage.proofs.has_bound.Tie as tie
-use Rattle.storage.proofs.has_bound.Reads as reads
-use Rattle.storage.proofs.has_bound.Lts as lts
-use Rattle.storage.proofs.is_bound.Reads as is-bound-reads
 
 abbrev Inv-loop : tie.InvT-loop
 Inv-loop image n v side b i₀ i = (i ≤ n) × Sought v side b (boundsAll image) i
@@ -18,39 +13,32 @@ Inv-loop image n v side b i₀ i = (i ≤ n) × Sought v side b (boundsAll image
 abbrev μ-loop : tie.MeasureT-loop
 μ-loop image n v side b i₀ i = n - i
 
--- src/lib.rt:69:5
 loop-holds : tie.Need-loop-holds Inv-loop μ-loop
 loop-holds c = (omega arith, refl)
 
--- src/lib.rt:70:12
 is-bound-requires : tie.Need-is-bound-requires Inv-loop μ-loop
 is-bound-requires c κs =
     let p = c .before .before .before .pre in
     (p .0, omega (arith, p .1))
 
--- src/lib.rt:71:13
 returns : tie.Need-returns Inv-loop μ-loop
 returns c =
     let l = c .before .before .before .loop in
     let s = c .before .before .before .before .before in
     seek-hit (s .args .v) (s .args .side) (boundsAll (now (s .args .image))) (l .i) (omega (arith, s .pre .1)) (s .args .b) (sym (c .before .is-bound .ensures) ∙ c .if1 .taken) (l .inv .1)
 
--- src/lib.rt:73:9
 add-i : tie.Need-add-i Inv-loop μ-loop
 add-i c = omega arith
 
--- src/lib.rt:69:5
 loop-less : tie.Need-loop-less Inv-loop μ-loop
 loop-less c = omega arith
 
--- src/lib.rt:69:5
 loop-again : tie.Need-loop-again Inv-loop μ-loop
 loop-again c =
     let l = c .before .before .before .loop in
     let s = c .before .before .before .before .before in
     (omega arith, seek-miss (s .args .v) (s .args .side) (boundsAll (now (s .args .image))) (l .i) (omega (arith, s .pre .1)) (s .args .b) (sym (c .before .is-bound .ensures) ∙ c .if1 .left) (l .inv .1))
 
--- src/lib.rt:63:1
 returns-2 : tie.Need-returns-2 Inv-loop μ-loop
 returns-2 c =
     let l = c .before .loop in

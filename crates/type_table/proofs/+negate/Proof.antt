@@ -1,5 +1,4 @@
 use native.Mathlib.Omega.{arith}
-use mathlib.Core.Path.{_≡_, refl, sym, ap, _∙_}
 use denote.Ref.{now}
 use borrow.Author.Needs.{needs}
 use Rattle.image.proofs.Laying.{shown-laid}
@@ -66,7 +65,6 @@ second : (t : ℕ) (c : negate-lts.After-q (
 ) (negate-at t) negate.Post) → Second (now (c .before .before .before .before .before .before .before .before .before .before .before .before .before .before .before .before .before .before .before .before .before .before .before .before .before .args .image)) (c .before .before .before .before .before .before .before .before .before .before .before .before .before .before .before .before .before .before .before .before .before .before .before .before .before .args .n) (c .before .before .before .before .before .before .before .p .given .0 .0) (c .q .given .0 .0) (c .before .before .before .before .negate2 .last .0)
 second t c = done-two _ _ _ _ _ (split t (c .before .before .before .before .before .before .before .before .before .before .before .before .before)) _ _ (first t (c .before .before .before .before .before .before .before)) _ _ _ (c .before .before .before .before .negate2 .ensures) (c .q .given .1)
 
--- src/lib.rt:121:9
 negate-entry-word-requires : (t : ℕ) → negate-lts.Need-entry-word-requires (
   entry-word-reads.Asked,
   entry-word-reads.Learnt,
@@ -79,7 +77,6 @@ negate-entry-word-requires t c κs =
     let p = c .before .before .pre .1 in
     (shown-laid (p .shows), (p .below, omega arith))
 
--- src/lib.rt:123:32
 negate-sub-t14 : (t : ℕ) → negate-lts.Need-sub-t14 (
   entry-word-reads.Asked,
   entry-word-reads.Learnt,
@@ -91,7 +88,6 @@ negate-sub-t14 : (t : ℕ) → negate-lts.Need-sub-t14 (
 negate-sub-t14 t c =
     omega arith
 
--- src/lib.rt:123:9
 negate-same-length : (t : ℕ) → negate-lts.Need-same-length (
   entry-word-reads.Asked,
   entry-word-reads.Learnt,
@@ -103,7 +99,6 @@ negate-same-length : (t : ℕ) → negate-lts.Need-same-length (
 negate-same-length t c =
     search needs
 
--- src/lib.rt:123:9
 negate-returns : (t : ℕ) → negate-lts.Need-returns (
   entry-word-reads.Asked,
   entry-word-reads.Learnt,
@@ -115,7 +110,6 @@ negate-returns : (t : ℕ) → negate-lts.Need-returns (
 negate-returns t c =
     cached-back _ _ (pre t (c .before .before .before .before)) _ (c .before .entry-word .ensures) (c .if1 .taken)
 
--- src/lib.rt:125:9
 negate-entry-word-requires-2 : (t : ℕ) → negate-lts.Need-entry-word-requires-2 (
   entry-word-reads.Asked,
   entry-word-reads.Learnt,
@@ -128,7 +122,6 @@ negate-entry-word-requires-2 t c κs =
     let p = c .before .before .before .before .before .pre .1 in
     (shown-laid (p .shows), (p .below, omega arith))
 
--- src/lib.rt:127:26
 negate-entry-word-requires-3 : (t : ℕ) → negate-lts.Need-entry-word-requires-3 (
   entry-word-reads.Asked,
   entry-word-reads.Learnt,
@@ -141,7 +134,6 @@ negate-entry-word-requires-3 t c κs =
     let p = c .before .before .before .before .before .before .before .before .pre .1 in
     (shown-laid (p .shows), (p .below, omega arith))
 
--- src/lib.rt:127:22
 negate-add-spread : (t : ℕ) → negate-lts.Need-add-spread (
   entry-word-reads.Asked,
   entry-word-reads.Learnt,
@@ -153,7 +145,6 @@ negate-add-spread : (t : ℕ) → negate-lts.Need-add-spread (
 negate-add-spread t c =
     omega (arith, c .entry-word3 .ensures, c .before .before .before .before .before .before .before .before .before .pre .1 .shallow)
 
--- src/lib.rt:128:9
 negate-add-requires : (t : ℕ) → negate-lts.Need-add-requires (
   entry-word-reads.Asked,
   entry-word-reads.Learnt,
@@ -166,7 +157,6 @@ negate-add-requires t c κs =
     let p = c .before .before .before .before .before .before .before .before .before .before .pre .1 in
     (p .shows, p .below)
 
--- src/lib.rt:128:9
 negate-same-length-2 : (t : ℕ) → negate-lts.Need-same-length-2 (
   entry-word-reads.Asked,
   entry-word-reads.Learnt,
@@ -178,7 +168,6 @@ negate-same-length-2 : (t : ℕ) → negate-lts.Need-same-length-2 (
 negate-same-length-2 t c =
     search needs
 
--- src/lib.rt:128:9
 negate-returns-2 : (t : ℕ) → negate-lts.Need-returns-2 (
   entry-word-reads.Asked,
   entry-word-reads.Learnt,
@@ -190,7 +179,6 @@ negate-returns-2 : (t : ℕ) → negate-lts.Need-returns-2 (
 negate-returns-2 t c =
     fresh-back _ _ (pre t (c .before .before .before .before .before .before .before .before .before .before .before .before .before)) _ _ _ _ _ (c .before .before .before .before .before .before .before .before .before .before .entry-word .ensures) (c .before .before .before .before .before .before .before .before .before .if1 .left) (c .before .before .before .before .before .before .before .entry-word2 .ensures) (c .before .before .before .before .before .before .if2 .taken) (c .before .before .before .before .entry-word3 .ensures) (c .before .before .add .ensures)
 
--- src/lib.rt:130:9
 negate-entry-word-requires-4 : (t : ℕ) → negate-lts.Need-entry-word-requires-4 (
   entry-word-reads.Asked,
   entry-word-reads.Learnt,
@@ -203,7 +191,6 @@ negate-entry-word-requires-4 t c κs =
     let p = c .before .before .before .before .before .before .before .before .pre .1 in
     (shown-laid (p .shows), (p .below, omega arith))
 
--- src/lib.rt:132:9
 negate-same-length-3 : (t : ℕ) → negate-lts.Need-same-length-3 (
   entry-word-reads.Asked,
   entry-word-reads.Learnt,
@@ -215,7 +202,6 @@ negate-same-length-3 : (t : ℕ) → negate-lts.Need-same-length-3 (
 negate-same-length-3 t c =
     search needs
 
--- src/lib.rt:132:9
 negate-returns-3 : (t : ℕ) → negate-lts.Need-returns-3 (
   entry-word-reads.Asked,
   entry-word-reads.Learnt,
@@ -227,7 +213,6 @@ negate-returns-3 : (t : ℕ) → negate-lts.Need-returns-3 (
 negate-returns-3 t c =
     twice-back _ _ (pre t (c .before .before .before .before .before .before .before .before .before .before)) _ _ _ (c .before .before .before .before .before .before .before .entry-word .ensures) (c .before .before .before .before .before .before .if1 .left) (c .before .before .before .before .entry-word2 .ensures) (c .before .before .before .if2 .left) (c .if3 .taken) (c .before .entry-word4 .ensures)
 
--- src/lib.rt:134:9
 negate-entry-word-requires-5 : (t : ℕ) → negate-lts.Need-entry-word-requires-5 (
   entry-word-reads.Asked,
   entry-word-reads.Learnt,
@@ -240,7 +225,6 @@ negate-entry-word-requires-5 t c κs =
     let p = c .before .before .before .before .before .before .before .before .before .before .before .pre .1 in
     (shown-laid (p .shows), (p .below, omega arith))
 
--- src/lib.rt:135:30
 negate-negate-requires : (t : ℕ) → negate-lts.Need-negate-requires (
   entry-word-reads.Asked,
   entry-word-reads.Learnt,
@@ -253,7 +237,6 @@ negate-negate-requires t c κs =
     let q = pre-one _ _ _ _ _ (split t (c .before)) in
     (omega (arith, q .0, c .before .before .before .before .before .before .before .before .before .before .before .before .before .pre .0), q .1)
 
--- src/lib.rt:135:25
 negate-enum-known-p : (t : ℕ) → negate-lts.Need-enum-known-p (
   entry-word-reads.Asked,
   entry-word-reads.Learnt,
@@ -265,7 +248,6 @@ negate-enum-known-p : (t : ℕ) → negate-lts.Need-enum-known-p (
 negate-enum-known-p t c =
     search needs
 
--- src/lib.rt:136:9
 negate-enum-told : (t : ℕ) → negate-lts.Need-enum-told (
   entry-word-reads.Asked,
   entry-word-reads.Learnt,
@@ -277,7 +259,6 @@ negate-enum-told : (t : ℕ) → negate-lts.Need-enum-told (
 negate-enum-told t c =
     search needs
 
--- src/lib.rt:136:9
 negate-same-length-4 : (t : ℕ) → negate-lts.Need-same-length-4 (
   entry-word-reads.Asked,
   entry-word-reads.Learnt,
@@ -289,7 +270,6 @@ negate-same-length-4 : (t : ℕ) → negate-lts.Need-same-length-4 (
 negate-same-length-4 t c =
     search needs
 
--- src/lib.rt:136:9
 negate-returns-4 : (t : ℕ) → negate-lts.Need-returns-4 (
   entry-word-reads.Asked,
   entry-word-reads.Learnt,
@@ -301,7 +281,6 @@ negate-returns-4 : (t : ℕ) → negate-lts.Need-returns-4 (
 negate-returns-4 t c =
     fail-one _ _ _ _ _ (split t (c .before .before .before .before .before .before)) _ _ (c .before .before .before .before .negate .ensures) (c .enum-told .given .1)
 
--- src/lib.rt:138:30
 negate-negate-requires-2 : (t : ℕ) → negate-lts.Need-negate-requires-2 (
   entry-word-reads.Asked,
   entry-word-reads.Learnt,
@@ -314,7 +293,6 @@ negate-negate-requires-2 t c κs =
     let f = first t (c .before .before) in
     (omega (arith, f .falls, c .before .before .before .before .before .before .before .before .before .before .before .before .before .before .before .before .before .before .before .before .pre .0), f .pre)
 
--- src/lib.rt:138:25
 negate-enum-known-q : (t : ℕ) → negate-lts.Need-enum-known-q (
   entry-word-reads.Asked,
   entry-word-reads.Learnt,
@@ -326,7 +304,6 @@ negate-enum-known-q : (t : ℕ) → negate-lts.Need-enum-known-q (
 negate-enum-known-q t c =
     search needs
 
--- src/lib.rt:139:9
 negate-enum-told-2 : (t : ℕ) → negate-lts.Need-enum-told-2 (
   entry-word-reads.Asked,
   entry-word-reads.Learnt,
@@ -338,7 +315,6 @@ negate-enum-told-2 : (t : ℕ) → negate-lts.Need-enum-told-2 (
 negate-enum-told-2 t c =
     search needs
 
--- src/lib.rt:139:9
 negate-same-length-5 : (t : ℕ) → negate-lts.Need-same-length-5 (
   entry-word-reads.Asked,
   entry-word-reads.Learnt,
@@ -350,7 +326,6 @@ negate-same-length-5 : (t : ℕ) → negate-lts.Need-same-length-5 (
 negate-same-length-5 t c =
     search needs
 
--- src/lib.rt:139:9
 negate-returns-5 : (t : ℕ) → negate-lts.Need-returns-5 (
   entry-word-reads.Asked,
   entry-word-reads.Learnt,
@@ -362,7 +337,6 @@ negate-returns-5 : (t : ℕ) → negate-lts.Need-returns-5 (
 negate-returns-5 t c =
     fail-two _ _ _ _ _ (split t (c .before .before .before .before .before .before .before .before .before .before .before .before .before)) _ _ (first t (c .before .before .before .before .before .before .before)) _ _ (c .before .before .before .before .negate2 .ensures) (c .enum-told2 .given .1)
 
--- src/lib.rt:141:22
 negate-entry-word-requires-6 : (t : ℕ) → negate-lts.Need-entry-word-requires-6 (
   entry-word-reads.Asked,
   entry-word-reads.Learnt,
@@ -375,7 +349,6 @@ negate-entry-word-requires-6 t c κs =
     let f = second t (c .before .before) in
     (shown-laid (f .self), (f .in-p, omega arith))
 
--- src/lib.rt:141:18
 negate-add-spread-2 : (t : ℕ) → negate-lts.Need-add-spread-2 (
   entry-word-reads.Asked,
   entry-word-reads.Learnt,
@@ -387,7 +360,6 @@ negate-add-spread-2 : (t : ℕ) → negate-lts.Need-add-spread-2 (
 negate-add-spread-2 t c =
     omega (arith, c .entry-word6 .ensures, second t (c .before .before .before) .low-p)
 
--- src/lib.rt:141:60
 negate-entry-word-requires-7 : (t : ℕ) → negate-lts.Need-entry-word-requires-7 (
   entry-word-reads.Asked,
   entry-word-reads.Learnt,
@@ -400,7 +372,6 @@ negate-entry-word-requires-7 t c κs =
     let f = second t (c .before .before .before .before) in
     (shown-laid (f .self), (f .in-q, omega arith))
 
--- src/lib.rt:141:18
 negate-add-spread-3 : (t : ℕ) → negate-lts.Need-add-spread-3 (
   entry-word-reads.Asked,
   entry-word-reads.Learnt,
@@ -412,7 +383,6 @@ negate-add-spread-3 : (t : ℕ) → negate-lts.Need-add-spread-3 (
 negate-add-spread-3 t c =
     omega (arith, c .before .before .entry-word6 .ensures, c .entry-word7 .ensures, second t (c .before .before .before .before .before) .low-p, second t (c .before .before .before .before .before) .low-q)
 
--- src/lib.rt:143:16
 negate-add-add : (t : ℕ) → negate-lts.Need-add-add (
   entry-word-reads.Asked,
   entry-word-reads.Learnt,
@@ -424,7 +394,6 @@ negate-add-add : (t : ℕ) → negate-lts.Need-add-add (
 negate-add-add t c =
     omega arith
 
--- src/lib.rt:143:16
 negate-sub-add : (t : ℕ) → negate-lts.Need-sub-add (
   entry-word-reads.Asked,
   entry-word-reads.Learnt,
@@ -436,7 +405,6 @@ negate-sub-add : (t : ℕ) → negate-lts.Need-sub-add (
 negate-sub-add t c =
     omega (arith, kind-low _ _ _ _ _ (split t (c .before .before .before .before .before .before .before .before .before .before .before .before .before .before .before .before .before .before .before)))
 
--- src/lib.rt:143:5
 negate-add-requires-2 : (t : ℕ) → negate-lts.Need-add-requires-2 (
   entry-word-reads.Asked,
   entry-word-reads.Learnt,
@@ -449,7 +417,6 @@ negate-add-requires-2 t c κs =
     let f = second t (c .before .before .before .before .before .before) in
     (f .self, f .in-n)
 
--- src/lib.rt:117:1
 negate-same-length-6 : (t : ℕ) → negate-lts.Need-same-length-6 (
   entry-word-reads.Asked,
   entry-word-reads.Learnt,
@@ -461,7 +428,6 @@ negate-same-length-6 : (t : ℕ) → negate-lts.Need-same-length-6 (
 negate-same-length-6 t c =
     search needs
 
--- src/lib.rt:117:1
 negate-returns-6 : (t : ℕ) → negate-lts.Need-returns-6 (
   entry-word-reads.Asked,
   entry-word-reads.Learnt,

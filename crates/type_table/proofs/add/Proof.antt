@@ -1,60 +1,44 @@
 use native.Mathlib.Omega.{arith}
-use mathlib.Core.Path.{_≡_, refl, sym, ap, _∙_}
 use denote.Ref.{now}
 use Rattle.image.proofs.Laying.{shown, shown-laid}
 use Rattle.type_table.proofs.Steps.{add-full, add-index, add-done}
 use borrow.Author.Needs.{needs}
 use Rattle.type_table.proofs.add.Statement.{statement}
 use Rattle.type_table.proofs.add.Tie as tie
-use Rattle.type_table.proofs.add.Reads as reads
-use Rattle.type_table.proofs.add.Lts as lts
-use Rattle.image.proofs.entries_capacity.Reads as entries-capacity-reads
-use Rattle.image.proofs.entries_count.Reads as entries-count-reads
-use Rattle.image.proofs.push_entry.Reads as push-entry-reads
-use Rattle.image.proofs.put_negation.Reads as put-negation-reads
 
--- src/lib.rt:81:9
 entries-count-requires : tie.Need-entries-count-requires
 entries-count-requires c κs =
     shown-laid (c .before .before .pre .0)
 
--- src/lib.rt:82:8
 entries-capacity-requires : tie.Need-entries-capacity-requires
 entries-capacity-requires c κs =
     shown-laid (c .before .before .before .before .pre .0)
 
--- src/lib.rt:83:9
 same-length : tie.Need-same-length
 same-length c = search needs
 
--- src/lib.rt:83:9
 returns : tie.Need-returns
 returns c =
     let s = c .before .before .before .before .before .before in
     let a = s .args in
     add-full (now (a .image)) (a .kind) (a .x) (a .y) (a .spread) (a .n) (c .before .before .before .entries-count .result) (c .before .entries-capacity .result) (s .pre .0) (c .before .before .before .entries-count .ensures) (c .before .entries-capacity .ensures) (c .if1 .taken)
 
--- src/lib.rt:85:5
 push-entry-requires : tie.Need-push-entry-requires
 push-entry-requires c κs =
     (c .before .before .before .before .before .before .before .pre .0, omega (arith, c .before .before .before .before .entries-count .ensures, c .before .before .entries-capacity .ensures, c .before .if1 .left))
 
--- src/lib.rt:86:35
 add-put-negation : tie.Need-add-put-negation
 add-put-negation c = search needs
 
--- src/lib.rt:86:5
 put-negation-requires : tie.Need-put-negation-requires
 put-negation-requires c κs =
     let s = c .before .before .before .before .before .before .before .before .before .before .before in
     let a = s .args in
     (shown (c .before .before .before .push-entry .ensures), add-index (now (a .image)) (a .kind) (a .x) (a .y) (a .spread) (a .n) (c .before .before .before .before .before .before .before .before .entries-count .result) (c .before .before .before .before .before .before .entries-capacity .result) (s .pre .0) (c .before .before .before .before .before .before .before .before .entries-count .ensures) (c .before .before .before .before .before .before .entries-capacity .ensures) _ (c .before .before .before .push-entry .ensures) (s .pre .1))
 
--- src/lib.rt:76:1
 same-length-2 : tie.Need-same-length-2
 same-length-2 c = search needs
 
--- src/lib.rt:76:1
 returns-2 : tie.Need-returns-2
 returns-2 c =
     let s = c .before .before .before .before .before .before .before .before .before .before .before .before .before .before in

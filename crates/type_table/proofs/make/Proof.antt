@@ -1,5 +1,4 @@
 use native.Mathlib.Omega.{arith}
-use mathlib.Core.Path.{_≡_, refl, sym, ap, _∙_}
 use denote.Ref.{now}
 use Rattle.laws.proofs.Formed.{sound-table}
 use Rattle.image.proofs.Laying.{formed-shown, formed-laid}
@@ -7,61 +6,45 @@ use Rattle.type_table.proofs.Steps.{make-full, make-deep, make-done}
 use borrow.Author.Needs.{needs}
 use Rattle.type_table.proofs.make.Statement.{statement}
 use Rattle.type_table.proofs.make.Tie as tie
-use Rattle.type_table.proofs.make.Reads as reads
-use Rattle.type_table.proofs.make.Lts as lts
-use Rattle.image.proofs.entries_capacity.Reads as entries-capacity-reads
-use Rattle.image.proofs.entries_count.Reads as entries-count-reads
-use Rattle.image.proofs.push_entry.Reads as push-entry-reads
-use Rattle.type_table.proofs.spread_of.Reads as spread-of-reads
 
--- src/lib.rt:57:9
 entries-count-requires : tie.Need-entries-count-requires
 entries-count-requires c κs =
     formed-laid _ (c .before .before .pre .0)
 
--- src/lib.rt:58:8
 entries-capacity-requires : tie.Need-entries-capacity-requires
 entries-capacity-requires c κs =
     formed-laid _ (c .before .before .before .before .pre .0)
 
--- src/lib.rt:59:9
 same-length : tie.Need-same-length
 same-length c = search needs
 
--- src/lib.rt:59:9
 returns : tie.Need-returns
 returns c =
     let s = c .before .before .before .before .before .before in
     let a = s .args in
     make-full (now (a .image)) (a .kind) (a .x) (a .y) (s .pre .0) (c .before .before .before .entries-count .result) (c .before .entries-capacity .result) (c .before .before .before .entries-count .ensures) (c .before .entries-capacity .ensures) (c .if1 .taken)
 
--- src/lib.rt:61:9
 spread-of-requires : tie.Need-spread-of-requires
 spread-of-requires c κs =
     let p = c .before .before .before .before .before .before .before .pre in
     (formed-laid _ (p .0), (p .1, sound-table _ (p .0) .store .shallow))
 
--- src/lib.rt:63:9
 same-length-2 : tie.Need-same-length-2
 same-length-2 c = search needs
 
--- src/lib.rt:63:9
 returns-2 : tie.Need-returns-2
 returns-2 c =
     let s = c .before .before .before .before .before .before .before .before .before in
     let a = s .args in
     make-deep (now (a .image)) (a .kind) (a .x) (a .y) (s .pre .0) (c .before .before .before .before .before .before .entries-count .result) (c .before .before .before .before .entries-capacity .result) (c .before .spread-of .result) (c .before .before .before .before .before .before .entries-count .ensures) (c .before .before .before .before .entries-capacity .ensures) (c .before .before .before .if1 .left) (c .before .spread-of .ensures) (c .if2 .taken)
 
--- src/lib.rt:65:5
 push-entry-requires : tie.Need-push-entry-requires
 push-entry-requires c κs =
     (formed-shown _ (c .before .before .before .before .before .before .before .before .before .before .pre .0), omega (arith, c .before .before .before .before .before .before .before .entries-count .ensures, c .before .before .before .before .before .entries-capacity .ensures, c .before .before .before .before .if1 .left))
 
--- src/lib.rt:51:1
 same-length-3 : tie.Need-same-length-3
 same-length-3 c = search needs
 
--- src/lib.rt:51:1
 returns-3 : tie.Need-returns-3
 returns-3 c =
     let s = c .before .before .before .before .before .before .before .before .before .before .before .before .before in

@@ -1,79 +1,59 @@
 use native.Mathlib.Omega.{arith}
-use mathlib.Core.Path.{_≡_, refl, sym, ap, _∙_}
 use Rattle.image.proofs.Laying.{formed-laid, shown-laid}
 use Rattle.type_table.proofs.Answers.{negatable, full-undo, full-told, made-part, made-undo, deep-told, made-told}
 use borrow.Author.Needs.{needs}
 use Rattle.type_table.proofs.make_neg.Statement.{statement}
 use Rattle.type_table.proofs.make_neg.Tie as tie
-use Rattle.type_table.proofs.make_neg.Reads as reads
-use Rattle.type_table.proofs.make_neg.Lts as lts
-use Rattle.image.proofs.entries_count.Reads as entries-count-reads
-use Rattle.image.proofs.entry_word.Reads as entry-word-reads
-use Rattle.type_table.proofs.negate.Reads as negate-reads
-use Rattle.type_table.proofs.undo.Reads as undo-reads
 
--- src/lib.rt:153:9
 entries-count-requires : tie.Need-entries-count-requires
 entries-count-requires c κs =
     formed-laid _ (c .before .before .pre .0)
 
--- src/lib.rt:154:30
 negate-requires : tie.Need-negate-requires
 negate-requires c κs =
     negatable _ _ (c .before .before .before .before .pre .0) (c .before .before .before .before .pre .1)
 
--- src/lib.rt:154:25
 enum-known-k : tie.Need-enum-known-k
 enum-known-k c = search needs
 
--- src/lib.rt:155:14
 enum-told : tie.Need-enum-told
 enum-told c = search needs
 
--- src/lib.rt:155:9
 undo-requires : tie.Need-undo-requires
 undo-requires c κs =
     let p = c .before .before .before .before .before .before .before .before .before .before .pre in
     full-undo _ _ (p .0) (p .1) _ (c .before .before .before .before .before .before .before .entries-count .ensures) _ _ (c .before .before .before .before .before .negate .ensures) (c .before .enum-told .given .1)
 
--- src/lib.rt:156:9
 same-length : tie.Need-same-length
 same-length c = search needs
 
--- src/lib.rt:156:9
 returns : tie.Need-returns
 returns c =
     let p = c .before .before .before .before .before .before .before .before .before .before .before .before .before .pre in
     full-told _ _ (p .0) (p .1) _ (c .before .before .before .before .before .before .before .before .before .before .entries-count .ensures) _ _ (c .before .before .before .before .before .before .before .before .negate .ensures) (c .before .before .before .before .enum-told .given .1) _ (c .before .before .undo .ensures)
 
--- src/lib.rt:158:22
 entry-word-requires : tie.Need-entry-word-requires
 entry-word-requires c κs =
     let p = c .before .before .before .before .before .before .before .before .before .before .before .pre in
     let q = made-part _ _ (p .0) (p .1) _ (c .before .before .before .before .before .before .before .before .entries-count .ensures) _ _ (c .before .before .before .before .before .before .negate .ensures) _ (c .before .before .k .given .1) in
     (shown-laid (q .0), (q .1, omega arith))
 
--- src/lib.rt:159:9
 undo-requires-2 : tie.Need-undo-requires-2
 undo-requires-2 c κs =
     let p = c .before .before .before .before .before .before .before .before .before .before .before .before .before .before .pre in
     made-undo _ _ (p .0) (p .1) _ (c .before .before .before .before .before .before .before .before .before .before .before .entries-count .ensures) _ _ (c .before .before .before .before .before .before .before .before .before .negate .ensures) _ (c .before .before .before .before .before .k .given .1)
 
--- src/lib.rt:160:9
 same-length-2 : tie.Need-same-length-2
 same-length-2 c = search needs
 
--- src/lib.rt:160:9
 returns-2 : tie.Need-returns-2
 returns-2 c =
     let p = c .before .before .before .before .before .before .before .before .before .before .before .before .before .before .before .before .before .pre in
     deep-told _ _ (p .0) (p .1) _ (c .before .before .before .before .before .before .before .before .before .before .before .before .before .before .entries-count .ensures) _ _ (c .before .before .before .before .before .before .before .before .before .before .before .before .negate .ensures) _ (c .before .before .before .before .before .before .before .before .k .given .1) (omega (arith, c .before .before .before .before .before .entry-word .ensures, c .before .before .before .before .if1 .taken)) _ (c .before .before .undo2 .ensures)
 
--- src/lib.rt:147:1
 same-length-3 : tie.Need-same-length-3
 same-length-3 c = search needs
 
--- src/lib.rt:147:1
 returns-3 : tie.Need-returns-3
 returns-3 c =
     let p = c .before .before .before .before .before .before .before .before .before .before .before .before .before .pre in

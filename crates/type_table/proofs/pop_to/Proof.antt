@@ -1,15 +1,10 @@
 use native.Mathlib.Omega.{arith}
-use mathlib.Core.Path.{_≡_, refl, sym, ap, _∙_}
 use lib.ListN.{length}
 use Rattle.image.specs.Shown.{entriesOf}
 use Rattle.image.proofs.Laying.{shown-laid}
 use Rattle.type_table.proofs.Undoing.{Popped, popped-start, popped-shows, popped-more, popped-end, same-length as as-long}
 use Rattle.type_table.proofs.pop_to.Statement.{statement}
 use Rattle.type_table.proofs.pop_to.Tie as tie
-use Rattle.type_table.proofs.pop_to.Reads as reads
-use Rattle.type_table.proofs.pop_to.Lts as lts
-use Rattle.image.proofs.entries_count.Reads as entries-count-reads
-use Rattle.image.proofs.pop_entry.Reads as pop-entry-reads
 
 abbrev Inv-loop : tie.InvT-loop
 Inv-loop image₀ old image = Popped image₀ old image
@@ -17,37 +12,30 @@ Inv-loop image₀ old image = Popped image₀ old image
 abbrev μ-loop : tie.MeasureT-loop
 μ-loop image₀ old image = length (entriesOf image)
 
--- src/lib.rt:94:5
 loop-holds : tie.Need-loop-holds Inv-loop μ-loop
 loop-holds c =
     popped-start _ _ (c .before .pre .0) (c .before .pre .1)
 
--- src/lib.rt:94:17
 entries-count-requires : tie.Need-entries-count-requires Inv-loop μ-loop
 entries-count-requires c κs =
     shown-laid (popped-shows _ _ _ (c .before .loop .inv))
 
--- src/lib.rt:95:9
 pop-entry-requires : tie.Need-pop-entry-requires Inv-loop μ-loop
 pop-entry-requires c κs =
     (popped-shows _ _ _ (c .before .before .before .before .loop .inv), omega (arith, c .before .before .entries-count .ensures, c .before .if1 .taken))
 
--- src/lib.rt:94:5
 loop-less : tie.Need-loop-less Inv-loop μ-loop
 loop-less c =
     popped-more _ _ _ (c .before .before .before .before .before .before .before .loop .inv) _ (omega (arith, c .before .before .before .before .before .entries-count .ensures, c .before .before .before .before .if1 .taken)) (c .before .before .pop-entry .ensures) .1
 
--- src/lib.rt:94:5
 loop-again : tie.Need-loop-again Inv-loop μ-loop
 loop-again c =
     popped-more _ _ _ (c .before .before .before .before .before .before .before .loop .inv) _ (omega (arith, c .before .before .before .before .before .entries-count .ensures, c .before .before .before .before .if1 .taken)) (c .before .before .pop-entry .ensures) .0
 
--- src/lib.rt:89:1
 same-length : tie.Need-same-length Inv-loop μ-loop
 same-length c =
     as-long _ _ _ (c .before .before .before .before .before .pre .0) (c .before .before .before .loop .inv .shows)
 
--- src/lib.rt:89:1
 returns : tie.Need-returns Inv-loop μ-loop
 returns c =
     popped-end _ _ _ (c .before .before .before .loop .inv) (omega (arith, c .before .entries-count .ensures, c .if1 .left))

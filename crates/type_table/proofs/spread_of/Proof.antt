@@ -1,66 +1,54 @@
 use Prim.Native.Nat.{ℕ, _+_}
 use native.Mathlib.Omega.{arith}
-use mathlib.Core.Path.{_≡_, refl, sym, ap, _∙_}
+use mathlib.Core.Path.{sym, ap, _∙_}
 use denote.Ref.{now}
 use Rattle.image.specs.Shown.{entriesOf}
 use Rattle.type_table.proofs.Steps.{spread-none, spread-inner, spread-both}
 use Rattle.type_table.proofs.spread_of.Statement.{statement}
 use Rattle.type_table.proofs.spread_of.Tie as tie
-use Rattle.type_table.proofs.spread_of.Reads as reads
-use Rattle.type_table.proofs.spread_of.Lts as lts
-use Rattle.image.proofs.entry_word.Reads as entry-word-reads
 
--- src/lib.rt:45:22
 entry-word-requires : tie.Need-entry-word-requires
 entry-word-requires c κs =
     let p = c .before .before .before .pre in
     (p .0, (p .1 .0 .0 (omega arith), omega arith))
 
--- src/lib.rt:45:18
 add-result : tie.Need-add-result
 add-result c =
     let s = c .before .before .before .before in
     omega (arith, c .entry-word .ensures, s .pre .1 .1 (s .args .x) (s .pre .1 .0 .0 (omega arith)))
 
--- src/lib.rt:46:18
 entry-word-requires-2 : tie.Need-entry-word-requires-2
 entry-word-requires-2 c κs =
     let p = c .before .before .before .pre in
     (p .0, (p .1 .0 .0 (omega arith), omega arith))
 
--- src/lib.rt:46:14
 add-result-2 : tie.Need-add-result-2
 add-result-2 c =
     let s = c .before .before .before .before in
     omega (arith, c .entry-word2 .ensures, s .pre .1 .1 (s .args .x) (s .pre .1 .0 .0 (omega arith)))
 
--- src/lib.rt:46:56
 entry-word-requires-3 : tie.Need-entry-word-requires-3
 entry-word-requires-3 c κs =
     let p = c .before .before .before .before .pre in
     (p .0, (p .1 .0 .1 (omega arith), omega arith))
 
--- src/lib.rt:46:14
 add-result-3 : tie.Need-add-result-3
 add-result-3 c =
     let s = c .before .before .before .before .before in
     omega (arith, c .before .entry-word2 .ensures, c .entry-word3 .ensures, s .pre .1 .1 (s .args .x) (s .pre .1 .0 .0 (omega arith)), s .pre .1 .1 (s .args .y) (s .pre .1 .0 .1 (omega arith)))
 
--- src/lib.rt:37:1
 returns : tie.Need-returns
 returns c =
     let s = c .before .before in
     let a = s .args in
     sym (spread-none (entriesOf (now (a .image))) (a .kind) (a .x) (a .y) (omega arith))
 
--- src/lib.rt:37:1
 returns-2 : tie.Need-returns-2
 returns-2 c =
     let s = c .before .before .before .before in
     let a = s .args in
     ap (λ (i : ℕ). 1 + i) (c .entry-word .ensures) ∙ sym (spread-inner (entriesOf (now (a .image))) (a .kind) (a .x) (a .y) (omega arith) (omega arith))
 
--- src/lib.rt:37:1
 returns-3 : tie.Need-returns-3
 returns-3 c =
     let s = c .before .before .before .before .before in

@@ -1,17 +1,11 @@
 use Prim.Native.Nat.{_-_}
 use native.Mathlib.Omega.{arith}
-use mathlib.Core.Path.{_≡_, refl, sym, ap, _∙_}
 use mathlib.Core.Logic.{⊎-elim}
 use Rattle.model.specs.Image.{table}
 use Rattle.image.proofs.Laying.{shown, shown-laid}
 use Rattle.type_table.proofs.Undoing.{Put, put-start, put-shows, put-skip, put-set, put-at, undo-end, popped-size, same-length as as-long}
 use Rattle.type_table.proofs.undo.Statement.{statement}
 use Rattle.type_table.proofs.undo.Tie as tie
-use Rattle.type_table.proofs.undo.Reads as reads
-use Rattle.type_table.proofs.undo.Lts as lts
-use Rattle.image.proofs.entry_word.Reads as entry-word-reads
-use Rattle.image.proofs.put_negation.Reads as put-negation-reads
-use Rattle.type_table.proofs.pop_to.Reads as pop-to-reads
 
 abbrev Inv-loop : tie.InvT-loop
 Inv-loop image₀ old i₀ image i = Put (table image₀) old i image
@@ -19,39 +13,32 @@ Inv-loop image₀ old i₀ image i = Put (table image₀) old i image
 abbrev μ-loop : tie.MeasureT-loop
 μ-loop image₀ old i₀ image i = old - i
 
--- src/lib.rt:105:5
 pop-to-requires : tie.Need-pop-to-requires Inv-loop μ-loop
 pop-to-requires c κs =
     c .before .before .pre
 
--- src/lib.rt:107:5
 loop-holds : tie.Need-loop-holds Inv-loop μ-loop
 loop-holds c =
     put-start _ _ (shown (c .before .before .pop-to .ensures)) (popped-size _ _ _ (c .before .before .pop-to .ensures) (c .before .before .before .before .before .pre .1))
 
--- src/lib.rt:108:18
 entry-word-requires : tie.Need-entry-word-requires Inv-loop μ-loop
 entry-word-requires c κs =
     let p = c .before .before .loop .inv in
     (shown-laid (put-shows _ _ _ _ p), (omega (arith, p .size, c .before .loop-test .taken), omega arith))
 
--- src/lib.rt:109:13
 put-negation-requires : tie.Need-put-negation-requires Inv-loop μ-loop
 put-negation-requires c κs =
     let p = c .before .before .before .before .before .loop .inv in
     (put-shows _ _ _ _ p, omega (arith, p .size, c .before .before .before .before .loop-test .taken))
 
--- src/lib.rt:111:9
 add-i : tie.Need-add-i Inv-loop μ-loop
 add-i c =
     omega arith
 
--- src/lib.rt:107:5
 loop-less : tie.Need-loop-less Inv-loop μ-loop
 loop-less c =
     omega arith
 
--- src/lib.rt:107:5
 loop-again : tie.Need-loop-again Inv-loop μ-loop
 loop-again c =
     let p = c .before .before .before .before .loop .inv in
@@ -60,12 +47,10 @@ loop-again c =
     (λ w. put-at _ _ _ _ _ (w .1) (put-skip _ _ _ _ p (c .before .before .before .loop-test .taken) (omega (arith, c .before .entry-word .ensures, w .0 .left))))
     (c .if1 .came)
 
--- src/lib.rt:100:1
 same-length : tie.Need-same-length Inv-loop μ-loop
 same-length c =
     as-long _ _ _ (c .before .before .before .before .before .before .before .pre .0) (undo-end _ _ _ (c .before .before .before .before .pop-to .ensures) (c .before .before .before .before .before .before .before .pre .1) _ _ (c .before .loop .inv) (c .loop-test .left))
 
--- src/lib.rt:100:1
 returns : tie.Need-returns Inv-loop μ-loop
 returns c =
     undo-end _ _ _ (c .before .before .before .before .pop-to .ensures) (c .before .before .before .before .before .before .before .pre .1) _ _ (c .before .loop .inv) (c .loop-test .left)
