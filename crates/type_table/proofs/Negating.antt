@@ -230,23 +230,7 @@ module _ (w : List ℕ) (n kind x y : ℕ) (s : Parts w n kind x y) where
         } in
         record {
           done = λ le. absurd (omega (arith, size));
-<<<<<<< HEAD
-          full = λ gt. (
-            refl,
-            (
-              k .0,
-              (
-                k .1 .0,
-                record {
-                  longer = omega (arith, grown-x .least, k .1 .1 .longer);
-                  undo = undoable-trans (entriesOf w) (left (entriesOf w) n .after) (k .0) (grown-x .least) (grown-x .undo) (k .1 .1 .undo);
-                },
-              ),
-            ),
-          );
-=======
           full = λ gt. (refl, (k .0, (k .1 .0, back)));
->>>>>>> making
         }
 
     pub done-two : (a : Negated) (u : List ℕ) (q : ℕ) → NegatedIn (table v) y a u → a ≡ N.Number q → Second w n p q u
@@ -292,21 +276,5 @@ module _ (w : List ℕ) (n kind x y : ℕ) (s : Parts w n kind x y) where
       record {
         done = λ le. rw (over, so) (h .done (omega (arith, size)));
         full = λ gt.
-<<<<<<< HEAD
-            let z = h .full (omega (arith, size)) in (
-              z .0,
-              (
-                us,
-                (
-                  z .1,
-                  record {
-                    longer = omega (arith, grown-x .least, grown-y .least);
-                    undo = undoable-trans (entriesOf w) (left (entriesOf w) n .after) us (grown-x .least) (grown-x .undo) (grown-y .undo);
-                  },
-                ),
-              ),
-            );
-=======
             let z = h .full (omega (arith, size)) in (z .0, (us, (z .1, back)));
->>>>>>> making
       }
