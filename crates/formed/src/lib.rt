@@ -146,14 +146,14 @@ fn zeros(part: &[u32]) -> bool
     ok
 }
 
-// Whether all words of a part are below a number.
-fn below(part: &[u32], most: u32) -> bool
-    ensures { λ r. ⌜ r ≡ all (λ w. ltb w most) (now (part .entry)) ⌝ }
+// Whether all words of a part are below a limit.
+fn below(part: &[u32], limit: u32) -> bool
+    ensures { λ r. ⌜ r ≡ all (λ w. ltb w limit) (now (part .entry)) ⌝ }
 {
     let mut ok = true;
     let mut i = 0;
     while i < part.len() {
-        ok = ok & (part[i] < most);
+        ok = ok & (part[i] < limit);
         i += 1;
     }
     ok
@@ -286,7 +286,7 @@ fn break_right(image: &[u32]) -> bool
     }
 }
 
-// Entry i's words.
+// Entry i's words, in their order.
 fn entry_words(image: &[u32], i: u32) -> EntryWords
     requires { ⌜ Laid (now image) ⌝ }
     requires { ⌜ i < length (entriesOf (now image)) ⌝ }

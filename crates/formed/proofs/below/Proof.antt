@@ -11,10 +11,10 @@ use Rattle.formed.proofs.below.Statement.{statement}
 use Rattle.formed.proofs.below.Tie as tie
 
 abbrev Inv-loop : tie.InvT-loop
-Inv-loop part most ok₀ i₀ ok i = (i ≤ length part) × (ok ≡ all (λ w. ltb w most) (take i part))
+Inv-loop part limit ok₀ i₀ ok i = (i ≤ length part) × (ok ≡ all (λ w. ltb w limit) (take i part))
 
 abbrev μ-loop : tie.MeasureT-loop
-μ-loop part most ok₀ i₀ ok i = length part - i
+μ-loop part limit ok₀ i₀ ok i = length part - i
 
 loop-holds : tie.Need-loop-holds Inv-loop μ-loop
 unfolding all
@@ -35,12 +35,12 @@ loop-less c = search needs
 loop-again : tie.Need-loop-again Inv-loop μ-loop
 loop-again c =
     let l = c .before .before .loop in
-    (omega arith, rw (l .inv .1) (sym (all-step (λ w. ltb w (c .before .before .before .args .most)) 0 (c .before .before .before .args .part .now) (l .i) (c .before .loop-test .taken))))
+    (omega arith, rw (l .inv .1) (sym (all-step (λ w. ltb w (c .before .before .before .args .limit)) 0 (c .before .before .before .args .part .now) (l .i) (c .before .loop-test .taken))))
 
 returns : tie.Need-returns Inv-loop μ-loop
 returns c =
     let l = c .before .loop in
-    l .inv .1 ∙ all-end (λ w. ltb w (c .before .before .args .most)) 0 (c .before .before .args .part .now) (l .i) (c .loop-test .left)
+    l .inv .1 ∙ all-end (λ w. ltb w (c .before .before .args .limit)) 0 (c .before .before .args .part .now) (l .i) (c .loop-test .left)
 
 pub below-spec : {M : Type 1} → statement M
 below-spec =
