@@ -3,17 +3,17 @@
 use Prim.Native.Nat.{ℕ, _≤_, _<_}
 use native.Mathlib.Omega.{arith}
 use mathlib.Core.Path.{_≡_, refl, sym, ap, _∙_}
-use mathlib.Core.List.{List}
+use mathlib.Core.List.{List, []}
 use mathlib.Core.Bool.{Bool, true, false, _&&_, and-false}
 use lib.ListN.{length}
 use lib.Dec.{T, leb, ltb}
-use borrow.Author.Tests.{lt-ltb, le-ltb, le-leb, lt-leb}
-use Rattle.model.specs.Format.{variable}
-use Rattle.model.specs.Table.{Entry, Table, isAsked, isAt}
-use Rattle.model.specs.Image.{table}
+use borrow.Author.Tests.{lt-ltb, le-ltb, le-leb, lt-leb, eq-eqb, ne-eqb}
+use Rattle.model.specs.Format.{variable, upper}
+use Rattle.model.specs.Table.{Entry, Table, isAsked, entryAt, is, isAt}
+use Rattle.model.specs.Image.{words, table}
 use Rattle.model.specs.Formed.{wellFormed, isEntry}
-use Rattle.model.specs.Calls.{Reply, Turn, refuse, replyOf, onTable, whenIdle, whenNumbered, whenVariable, Call, turnOf, perform}
-use Rattle.model.specs.Told.{Told, toldRefusal}
+use Rattle.model.specs.Calls.{Reply, Turn, refuse, leave, replyOf, onTable, whenIdle, whenNumbered, whenVariable, Call, turnOf, perform}
+use Rattle.model.specs.Told.{Told, done, toldRefusal}
 use Rattle.model.specs.declared.Refusal.{Refusal}
 use Rattle.model.specs.declared.Refusal.the-variants.{BadTable, BadNumber, Busy, NotAVariable}
 use Rattle.laws.proofs.Tests.{true-of}
@@ -99,3 +99,34 @@ good-says c w h k = rw (true-of (wellFormed w) h) k
 pub numbered-says : (w : List ℕ) (turn : Turn) (ok : Bool) → ok ≡ true → {a : Told} → Says a (replyOf w turn) → Says a (replyOf w (whenNumbered ok turn))
 unfolding whenNumbered
 numbered-says w turn ok e k = rw e k
+
+-- what is done leaves the words of a table
+pub left-as : (w v : List ℕ) (t : Table) → v ≡ words t → Replies (done []) v (replyOf w (leave (done []) 0 t))
+unfolding replyOf
+left-as w v t e = record { says = refl; leaves = e }
+
+-- a bound's three numbers
+module _ (es : List Entry) (v side b : ℕ) where
+  abbrev pub boundNumbered : Bool
+  boundNumbered = isEntry es v && leb side upper && isEntry es b
+
+  pub bound-numbered : v < length es → side ≤ upper → b < length es → boundNumbered ≡ true
+  bound-numbered h k l = rw (an-entry es v h, le-leb side upper k, an-entry es b l)
+
+  pub no-bounded : length es ≤ v → boundNumbered ≡ false
+  no-bounded h = rw (no-entry es v h)
+
+  pub no-side : upper < side → boundNumbered ≡ false
+  no-side h = rw (lt-leb side upper h, and-false (isEntry es v))
+
+  pub no-bound : length es ≤ b → boundNumbered ≡ false
+  no-bound h = rw (no-entry es b h) (and-false (isEntry es v && leb side upper))
+
+  -- an entry's kind says whether it is a variable
+  pub kind-variable : entryAt es v .kind ≡ variable → isAt es variable v ≡ true
+  unfolding isAt is
+  kind-variable e = eq-eqb (entryAt es v .kind) variable e
+
+  pub kind-other : (entryAt es v .kind ≡ variable → ⊥) → isAt es variable v ≡ false
+  unfolding isAt is
+  kind-other e = ne-eqb (entryAt es v .kind) variable e

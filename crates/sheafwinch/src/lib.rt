@@ -4,14 +4,15 @@ use model::Disjointness;
 use model::EntryRead;
 use model::Made;
 use model::Refusal;
+use model::Reply;
 ghost use mathlib.Core.Path.{_≡_};
 ghost use Prim.Native.Nat.{_≤_};
 ghost use lib.Dec.{T};
 ghost use Rattle.model.specs.Format.{neg};
 ghost use Rattle.model.specs.Image.{table};
 ghost use Rattle.model.specs.Formed.{wellFormed};
-ghost use Rattle.model.specs.Calls.{replyOf, variableTurn, primitiveTurn, oneTurn, twoTurn, negTurn, readEntryTurn, readDisjointTurn, perform, makesVariable, makesPrimitive, makesList, makesLambda, makesNamed, makesNeg, makesInter, makesUnion, readsEntry, readsDisjoint};
-ghost use Rattle.model.specs.Told.{toldMade, toldEntryRead, toldDisjointness};
+ghost use Rattle.model.specs.Calls.{replyOf, variableTurn, primitiveTurn, oneTurn, twoTurn, negTurn, markTurn, putBoundTurn, enterTurn, exitTurn, setLevelTurn, readEntryTurn, readDisjointTurn, perform, makesVariable, makesPrimitive, makesList, makesLambda, makesNamed, makesNeg, makesInter, makesUnion, marks, putsBound, enters, exits, setsLevel, readsEntry, readsDisjoint};
+ghost use Rattle.model.specs.Told.{toldMade, toldReply, toldEntryRead, toldDisjointness};
 
 // Kinds.
 const VARIABLE: u32 = 0;
@@ -30,6 +31,11 @@ const UNION: u32 = 8;
 
 // The last primitive.
 const NUMBER: u32 = 7;
+
+// The last side, and where an entry has its kind.
+const UPPER: u32 = 1;
+
+const KIND: usize = 0;
 
 // Makes a variable at the current level.
 pub fn make_variable(image: &mut [u32]) -> Made
@@ -194,6 +200,144 @@ fn neg_in(image: &mut [u32], n: u32) -> Made
         return Made::Refused(Refusal::BadNumber);
     }
     type_table::make_neg(image, n)
+}
+
+// Sets the default mark of an entry.
+pub fn mark(image: &mut [u32], n: u32) -> Reply
+    ensures { λ r. ⌜ toldReply r ≡ perform (marks n) (now (image .entry)) .says ⌝ }
+    ensures { λ _. ⌜ now (image .exit) ≡ perform (marks n) (now (image .entry)) .words ⌝ }
+{
+    if !formed::check(image) {
+        return Reply::Refused(Refusal::BadTable);
+    }
+    mark_in(image, n)
+}
+
+// A mark.
+fn mark_in(image: &mut [u32], n: u32) -> Reply
+    requires { ⌜ T (wellFormed (now image)) ⌝ }
+    ensures { λ r. ⌜ toldReply r ≡ replyOf (now (image .entry)) (markTurn n (table (now (image .entry)))) .says ⌝ }
+    ensures { λ _. ⌜ now (image .exit) ≡ replyOf (now (image .entry)) (markTurn n (table (now (image .entry)))) .words ⌝ }
+{
+    if image::is_asked(image) {
+        return Reply::Refused(Refusal::Busy);
+    }
+    if image::entries_count(image) <= n {
+        return Reply::Refused(Refusal::BadNumber);
+    }
+    storage::mark(image, n);
+    Reply::Done
+}
+
+// Puts a bound of a variable, on side 0 lower or 1 upper.
+pub fn put_bound(image: &mut [u32], variable: u32, side: u32, bound: u32) -> Reply
+    ensures { λ r. ⌜ toldReply r ≡ perform (putsBound variable side bound) (now (image .entry)) .says ⌝ }
+    ensures { λ _. ⌜ now (image .exit) ≡ perform (putsBound variable side bound) (now (image .entry)) .words ⌝ }
+{
+    if !formed::check(image) {
+        return Reply::Refused(Refusal::BadTable);
+    }
+    bound_in(image, variable, side, bound)
+}
+
+// A bound.
+fn bound_in(image: &mut [u32], v: u32, side: u32, b: u32) -> Reply
+    requires { ⌜ T (wellFormed (now image)) ⌝ }
+    ensures { λ r. ⌜ toldReply r ≡ replyOf (now (image .entry)) (putBoundTurn v side b (table (now (image .entry)))) .says ⌝ }
+    ensures { λ _. ⌜ now (image .exit) ≡ replyOf (now (image .entry)) (putBoundTurn v side b (table (now (image .entry)))) .words ⌝ }
+{
+    if image::is_asked(image) {
+        return Reply::Refused(Refusal::Busy);
+    }
+    if image::entries_count(image) <= v {
+        return Reply::Refused(Refusal::BadNumber);
+    }
+    if UPPER < side {
+        return Reply::Refused(Refusal::BadNumber);
+    }
+    if image::entries_count(image) <= b {
+        return Reply::Refused(Refusal::BadNumber);
+    }
+    if image::entry_word(image, v, KIND) != VARIABLE {
+        return Reply::Refused(Refusal::NotAVariable);
+    }
+    storage::put_bound(image, v, side, b)
+}
+
+// Enters a level.
+pub fn enter(image: &mut [u32]) -> Reply
+    ensures { λ r. ⌜ toldReply r ≡ perform enters (now (image .entry)) .says ⌝ }
+    ensures { λ _. ⌜ now (image .exit) ≡ perform enters (now (image .entry)) .words ⌝ }
+{
+    if !formed::check(image) {
+        return Reply::Refused(Refusal::BadTable);
+    }
+    enter_in(image)
+}
+
+// The level above.
+fn enter_in(image: &mut [u32]) -> Reply
+    requires { ⌜ T (wellFormed (now image)) ⌝ }
+    ensures { λ r. ⌜ toldReply r ≡ replyOf (now (image .entry)) (enterTurn (table (now (image .entry)))) .says ⌝ }
+    ensures { λ _. ⌜ now (image .exit) ≡ replyOf (now (image .entry)) (enterTurn (table (now (image .entry)))) .words ⌝ }
+{
+    if image::is_asked(image) {
+        return Reply::Refused(Refusal::Busy);
+    }
+    storage::enter(image)
+}
+
+// Leaves a level.
+pub fn exit(image: &mut [u32]) -> Reply
+    ensures { λ r. ⌜ toldReply r ≡ perform exits (now (image .entry)) .says ⌝ }
+    ensures { λ _. ⌜ now (image .exit) ≡ perform exits (now (image .entry)) .words ⌝ }
+{
+    if !formed::check(image) {
+        return Reply::Refused(Refusal::BadTable);
+    }
+    exit_in(image)
+}
+
+// The level below.
+fn exit_in(image: &mut [u32]) -> Reply
+    requires { ⌜ T (wellFormed (now image)) ⌝ }
+    ensures { λ r. ⌜ toldReply r ≡ replyOf (now (image .entry)) (exitTurn (table (now (image .entry)))) .says ⌝ }
+    ensures { λ _. ⌜ now (image .exit) ≡ replyOf (now (image .entry)) (exitTurn (table (now (image .entry)))) .words ⌝ }
+{
+    if image::is_asked(image) {
+        return Reply::Refused(Refusal::Busy);
+    }
+    storage::exit(image)
+}
+
+// Sets a variable's level.
+pub fn set_level(image: &mut [u32], variable: u32, level: u32) -> Reply
+    ensures { λ r. ⌜ toldReply r ≡ perform (setsLevel variable level) (now (image .entry)) .says ⌝ }
+    ensures { λ _. ⌜ now (image .exit) ≡ perform (setsLevel variable level) (now (image .entry)) .words ⌝ }
+{
+    if !formed::check(image) {
+        return Reply::Refused(Refusal::BadTable);
+    }
+    level_in(image, variable, level)
+}
+
+// A variable's level.
+fn level_in(image: &mut [u32], v: u32, level: u32) -> Reply
+    requires { ⌜ T (wellFormed (now image)) ⌝ }
+    ensures { λ r. ⌜ toldReply r ≡ replyOf (now (image .entry)) (setLevelTurn v level (table (now (image .entry)))) .says ⌝ }
+    ensures { λ _. ⌜ now (image .exit) ≡ replyOf (now (image .entry)) (setLevelTurn v level (table (now (image .entry)))) .words ⌝ }
+{
+    if image::is_asked(image) {
+        return Reply::Refused(Refusal::Busy);
+    }
+    if image::entries_count(image) <= v {
+        return Reply::Refused(Refusal::BadNumber);
+    }
+    if image::entry_word(image, v, KIND) != VARIABLE {
+        return Reply::Refused(Refusal::NotAVariable);
+    }
+    storage::set_level(image, v, level);
+    Reply::Done
 }
 
 // Reads an entry out.
