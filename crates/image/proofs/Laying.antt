@@ -1,18 +1,16 @@
 -- A well formed image is laid out and shows its table; words that show a table are laid out, and read back as it. Assumes nothing.
-use Prim.Native.Nat.{ℕ, _+_, _*_, _≤_}
+use Prim.Native.Nat.{ℕ}
 use native.Mathlib.Omega.{arith}
 use mathlib.Core.Path.{_≡_, refl, sym, ap, _∙_, subst}
 use mathlib.Core.List.{List}
-use lib.ListN.{length}
 use lib.Dec.{T}
 use Rattle.model.specs.Table.{Table}
-use Rattle.model.specs.Image.{words, table, header, offset, capacity, count}
-use Rattle.model.specs.Formed.{wellFormed, regionEnd, headerWhole}
+use Rattle.model.specs.Image.{words, table, header}
+use Rattle.model.specs.Formed.{wellFormed}
 use Rattle.laws.specs.Good.{Sound}
-use Rattle.laws.proofs.Tests.{nth, le-of}
-use Rattle.laws.proofs.Round.{RegionIs, RegionsAre, regions-are, words-length, words-table, table-words}
+use Rattle.laws.proofs.Round.{words-length, words-table, table-words}
 use Rattle.laws.proofs.Formed.{sound-table}
-use Rattle.image.specs.Laid.{RegionLaid, Laid}
+use Rattle.image.specs.Laid.{Laid}
 use Rattle.image.specs.Shown.{Within, Shows, Shown}
 
 pub sound-within : (t : Table) → Sound t → Within t

@@ -8,14 +8,14 @@ use mathlib.Core.Bool.{cond}
 use lib.ListN.{length, set, take, replicate}
 use lib.Seq.{sets, length-sets, getD-set-same, length-take-le}
 use Rattle.model.specs.Lists.{isZero}
-use Rattle.model.specs.Format.{idle, asked, pendingRegion}
+use Rattle.model.specs.Format.{idle, asked}
 use Rattle.model.specs.Table.{Pair, _⊑_, Break, Store, Table, tableOf, stateOf, withBroken, withLevel}
-use Rattle.model.specs.Image.{header, words, table, word, count, offset}
+use Rattle.model.specs.Image.{header, words, word}
 use Rattle.laws.proofs.Regions.{pair-coded}
 use Rattle.laws.proofs.Round.{words-length}
-use Rattle.image.specs.Shown.{Within, Shows, Shown, storeOf, pendingIn, pendingTo, brokenTo, levelTo}
+use Rattle.image.specs.Shown.{Shows, Shown, storeOf, pendingIn, pendingTo, brokenTo, levelTo}
 use Rattle.image.specs.Stores.{appended, removed}
-use Rattle.image.proofs.Laying.{seen, shown}
+use Rattle.image.proofs.Laying.{seen}
 use Rattle.image.proofs.Places.{facts, more-length, become, part-pushed, part-popped, pending-part}
 
 state-more : (l : List Pair) (p : Pair) → stateOf (l ++ (p ∷ [])) ≡ asked

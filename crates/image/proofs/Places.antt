@@ -5,12 +5,11 @@ use mathlib.Core.Path.{_≡_, refl, sym, ap, _∙_, subst}
 use mathlib.Core.List.{List, [], _∷_, _++_, append-assoc, append-nil}
 use lib.ListN.{length, getD, set, take, replicate, length-append, length-set}
 use lib.Seq.{sets, length-take-le, take-length, take-suc}
-use Rattle.model.specs.Format.{headerWords, stateAt, offsetAt, capacityAt, countAt, entryWidth, fieldWidth, boundWidth, visitedWidth, pendingWidth, equalsWidth}
+use Rattle.model.specs.Format.{headerWords, stateAt, countAt, entryWidth, fieldWidth, boundWidth, visitedWidth, pendingWidth, equalsWidth}
 use Rattle.model.specs.Format.{entriesRegion, fieldsRegion, boundsRegion, visitedRegion, pendingRegion, equalsRegion}
 use Rattle.model.specs.Making.{changed}
-use Rattle.model.specs.Table.{Entry, Field, Bound, Pair, Table, stateOf, noEntry, entryAt, withEntries, withFields, withBounds, withVisited, withEquals}
-use Rattle.model.specs.Image.{entryWords, fieldWords, boundWords, pairWords, entryOf, fieldOf, boundOf, pairOf, region, header, words, table, offset, capacity, count, word}
-use Rattle.laws.specs.Good.{Held}
+use Rattle.model.specs.Table.{Entry, Pair, Table, stateOf, noEntry, entryAt, withEntries, withFields, withBounds, withVisited, withEquals}
+use Rattle.model.specs.Image.{entryWords, fieldWords, boundWords, pairWords, region, header, words, table, offset, capacity, count, word}
 use Rattle.laws.proofs.Regions.{Coded, region-length, entry-coded, field-coded, bound-coded, pair-coded}
 use Rattle.image.specs.Laid.{Laid}
 use Rattle.image.specs.Shown.{Within, Shows, Shown, storeOf, entriesOf, fieldsIn, boundsAll, visitedIn, pendingIn, equalsIn, entriesTo, fieldsTo, boundsTo, visitedTo, pendingTo, equalsTo}

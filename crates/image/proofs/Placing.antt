@@ -1,6 +1,6 @@
 -- A record among an image's words: put behind the last of its region, taken off the end, changed where it stands. Each law
 -- is stated once, over the record's type, its words, its width and its place, words before ++ (region ++ words after). Assumes nothing.
-use Prim.Native.Nat.{ℕ, suc, _+_, _-_, _*_, _≤_, _<_}
+use Prim.Native.Nat.{ℕ, suc, _+_, _-_, _*_, _<_}
 use native.Mathlib.Omega.{arith}
 use native.Mathlib.Nat.{zero-add, suc-add}
 use mathlib.Core.Path.{_≡_, refl, sym, ap, _∙_}

@@ -1,18 +1,18 @@
 -- A word of a record is a word of the image. Assumes nothing.
 use Prim.Native.Nat.{ℕ, zero, suc, _+_, _*_, _≤_, _<_}
 use native.Mathlib.Omega.{arith}
-use native.Mathlib.Nat.{mul-zero, mul-suc, add-assoc, mul-le-mul-left}
-use mathlib.Core.Path.{_≡_, refl, sym, ap, _∙_}
-use mathlib.Core.List.{List, [], _∷_}
-use lib.ListN.{length, getD, take, drop, length-drop}
+use native.Mathlib.Nat.{mul-zero, mul-suc}
+use mathlib.Core.Path.{_≡_, sym, ap, _∙_}
+use mathlib.Core.List.{List}
+use lib.ListN.{length, getD, drop, length-drop}
 use lib.Seq.{getD-take, getD-drop, drop-drop}
 use Rattle.model.specs.Lists.{readMany}
-use Rattle.model.specs.Format.{entryWidth, fieldWidth, boundWidth, visitedWidth, pendingWidth, equalsWidth, headerWords, entriesRegion, fieldsRegion, boundsRegion, visitedRegion, pendingRegion, equalsRegion}
-use Rattle.model.specs.Table.{Entry, Field, Bound, Pair, entryAt}
-use Rattle.model.specs.Image.{word, offset, capacity, count, recordsOf, table, entryWords, fieldWords, boundWords, pairWords, entryOf, fieldOf, boundOf, pairOf}
+use Rattle.model.specs.Format.{entryWidth, fieldWidth, boundWidth, visitedWidth, pendingWidth, equalsWidth, entriesRegion, fieldsRegion, boundsRegion, visitedRegion, pendingRegion, equalsRegion}
+use Rattle.model.specs.Table.{entryAt}
+use Rattle.model.specs.Image.{word, offset, count, recordsOf, table, entryWords, fieldWords, boundWords, pairWords, entryOf, fieldOf, boundOf, pairOf}
 use Rattle.laws.proofs.Regions.{Coded, entry-coded, field-coded, bound-coded, pair-coded}
 use Rattle.laws.proofs.Round.{records-length}
-use Rattle.image.specs.Laid.{RegionLaid, Laid}
+use Rattle.image.specs.Laid.{Laid}
 use Rattle.image.specs.Shown.{entriesOf, fieldsIn, boundsAll, visitedIn, pendingIn, equalsIn}
 use Rattle.image.specs.Records.{fieldAt, boundAt, pairAt}
 

@@ -1,18 +1,18 @@
 -- An image that is started: every word zeroed, and the header written over the zeroes. Assumes nothing.
-use Prim.Native.Nat.{ℕ, suc, _+_, _-_, _*_, _≤_, _<_}
+use Prim.Native.Nat.{ℕ, suc, _+_, _*_, _≤_, _<_}
 use native.Mathlib.Omega.{arith}
 use native.Mathlib.Nat.{sub-zero}
 use native.Mathlib.Numerals.{add-one}
 use mathlib.Core.Path.{_≡_, refl, sym, ap, _∙_}
-use mathlib.Core.List.{List, [], _∷_, _++_, append-assoc, append-nil}
-use mathlib.Core.Bool.{Bool, true, false, _&&_, and-assoc, and-true}
+use mathlib.Core.List.{List, [], _++_, append-assoc, append-nil}
+use mathlib.Core.Bool.{true, false, _&&_, and-assoc, and-true}
 use lib.ListN.{length, getD, set, drop, replicate, length-append, length-drop, length-replicate, replicate-append-replicate}
 use lib.Seq.{drop-cons, drop-length, set-at, append-snoc}
 use lib.Dec.{T, eqb, leb}
 use Rattle.model.specs.Lists.{allOf, flat}
 use Rattle.model.specs.Format.{namesMost}
 use Rattle.model.specs.Table.{Capacities, stateOf}
-use Rattle.model.specs.Image.{blanks, region, header, words, imageLength}
+use Rattle.model.specs.Image.{region, header, words, imageLength}
 use Rattle.model.specs.Calls.{emptyTable, capacitiesRight, start, replyOf}
 use Rattle.model.specs.Told.{done, toldRefusal}
 use Rattle.model.specs.declared.Refusal.the-variants.{BadCapacity}

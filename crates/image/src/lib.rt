@@ -9,10 +9,9 @@ use model::Reply;
 ghost use mathlib.Core.Path.{_≡_};
 ghost use mathlib.Core.List.{[], _∷_, _++_};
 ghost use mathlib.Core.Bool.{cond};
-ghost use Prim.Native.Nat.{ℕ, _+_, _-_, _*_, _≤_, _<_};
-ghost use lib.ListN.{length, getD, set, take, drop, replicate};
+ghost use Prim.Native.Nat.{_+_, _-_, _*_, _≤_, _<_};
+ghost use lib.ListN.{length, set, take, drop, replicate};
 ghost use lib.Seq.{sets};
-ghost use Rattle.model.specs.Format.{entriesRegion, fieldsRegion, boundsRegion, visitedRegion, pendingRegion, equalsRegion};
 ghost use Rattle.model.specs.Format.{wordEnd, formatAt, formatWord, namesAt, functorAt, idle, asked};
 ghost use Rattle.model.specs.Lists.{isZero, any, readMany};
 ghost use Rattle.model.specs.Table.{_⊑_, entryAt, isAsked};
@@ -476,13 +475,23 @@ pub fn pop_entry(image: &mut [u32])
     image[ENTRIES_COUNT_AT] = count;
 }
 
+// Writes word j of entry i.
+fn put_entry_word(image: &mut [u32], i: u32, j: usize, v: u32)
+    requires { ⌜ Laid (now image) ⌝ }
+    requires { ⌜ i < length (entriesOf (now image)) ⌝ }
+    requires { ⌜ j < 7 ⌝ }
+    ensures { λ _. ⌜ now (image .exit) ≡ set (now (image .entry)) (27 + 7 * i + j) v ⌝ }
+{
+    image[HEADER_WORDS + ENTRY_WIDTH * wide(i) + j] = v;
+}
+
 // Caches a negation at entry i: c is its number plus 1, or 0.
 pub fn put_negation(image: &mut [u32], i: u32, c: u32)
     requires { ⌜ Shown (now image) ⌝ }
     requires { ⌜ i < length (entriesOf (now image)) ⌝ }
     ensures { λ _. ⌜ Shows (now (image .exit)) (entriesTo (now (image .entry)) (changed (withNegation c) (entriesOf (now (image .entry))) i)) ⌝ }
 {
-    image[HEADER_WORDS + ENTRY_WIDTH * wide(i) + NEGATION_WORD] = c;
+    put_entry_word(image, i, NEGATION_WORD, c);
 }
 
 // Marks entry i.
@@ -492,7 +501,7 @@ pub fn put_mark(image: &mut [u32], i: u32)
     ensures { λ _. ⌜ Shows (now (image .exit)) (entriesTo (now (image .entry)) (changed withMark (entriesOf (now (image .entry))) i)) ⌝ }
 {
     let flags = entry_word(image, i, FLAGS_WORD);
-    image[HEADER_WORDS + ENTRY_WIDTH * wide(i) + FLAGS_WORD] = flags - flags % 2 + MARK_FLAG;
+    put_entry_word(image, i, FLAGS_WORD, flags - flags % 2 + MARK_FLAG);
 }
 
 // Puts entry i, a variable, at level l.
@@ -501,7 +510,7 @@ pub fn put_level(image: &mut [u32], i: u32, l: u32)
     requires { ⌜ i < length (entriesOf (now image)) ⌝ }
     ensures { λ _. ⌜ Shows (now (image .exit)) (entriesTo (now (image .entry)) (changed (withX l) (entriesOf (now (image .entry))) i)) ⌝ }
 {
-    image[HEADER_WORDS + ENTRY_WIDTH * wide(i) + X_WORD] = l;
+    put_entry_word(image, i, X_WORD, l);
 }
 
 // Writes a pair, or a triple, as record n of a region that is lent from its offset on.

@@ -2,8 +2,8 @@ use Rattle.image.proofs.Lent.{back-record}
 use denote.Ref.{now}
 use lib.ListN.{set, getD}
 use mathlib.Core.List.{List, [], _∷_}
-use Prim.Native.Nat.{ℕ, _+_, _-_, _*_}
-use mathlib.Core.Path.{_≡_, refl, sym, ap, _∙_}
+use Prim.Native.Nat.{ℕ, _+_}
+use mathlib.Core.Path.{ap}
 use borrow.Author.Needs.{needs}
 use Rattle.image.proofs.append_pair.Statement.{statement}
 use Rattle.image.proofs.append_pair.Tie as tie

@@ -1,4 +1,4 @@
-use mathlib.Core.Path.{_≡_, sym}
+use mathlib.Core.Path.{sym}
 use Rattle.image.proofs.Reading.{equals-count}
 use borrow.Author.Needs.{needs}
 use Rattle.image.proofs.equals_count.Statement.{statement}

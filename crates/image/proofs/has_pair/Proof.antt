@@ -5,10 +5,10 @@ use Rattle.model.specs.Table.{_⊑_}
 use Rattle.model.specs.Lists.{any, readMany}
 use borrow.Author.Needs.{needs}
 use denote.Ref.{now}
-use mathlib.Core.Bool.{true, false}
-use lib.ListN.{length, drop}
-use Prim.Native.Nat.{_+_, _-_, _*_, _≤_}
-use mathlib.Core.Path.{_≡_, refl, sym, ap, _∙_}
+use mathlib.Core.Bool.{false}
+use lib.ListN.{drop}
+use Prim.Native.Nat.{_-_, _*_, _≤_}
+use mathlib.Core.Path.{_≡_, refl, sym}
 use native.Mathlib.Omega.{arith}
 use Rattle.image.proofs.has_pair.Statement.{statement}
 use Rattle.image.proofs.has_pair.Tie as tie

@@ -2,7 +2,7 @@ use Rattle.image.proofs.Pending.{pending-popped}
 use Rattle.image.proofs.Places.{facts, become}
 use lib.ListN.{set}
 use Prim.Native.Nat.{ℕ}
-use mathlib.Core.Path.{_≡_, refl, sym, ap, _∙_}
+use mathlib.Core.Path.{ap}
 use native.Mathlib.Omega.{arith}
 use borrow.Author.Needs.{needs}
 use Rattle.image.proofs.pop_pending.Statement.{statement}

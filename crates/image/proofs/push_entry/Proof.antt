@@ -3,8 +3,8 @@ use Rattle.model.specs.Image.{entryWords}
 use lib.Seq.{sets}
 use lib.ListN.{set, getD}
 use mathlib.Core.List.{List}
-use Prim.Native.Nat.{ℕ, _+_, _-_, _*_, _%_}
-use mathlib.Core.Path.{_≡_, refl, sym, ap, _∙_}
+use Prim.Native.Nat.{ℕ, _+_, _*_}
+use mathlib.Core.Path.{ap, _∙_}
 use native.Mathlib.Omega.{arith}
 use denote.Ref.{now}
 use Rattle.image.proofs.Places.{facts, become, entry-pushed}

@@ -2,8 +2,8 @@ use Rattle.image.proofs.Pending.{pending-pushed}
 use Rattle.image.proofs.Places.{facts, become}
 use lib.ListN.{set}
 use Prim.Native.Nat.{ℕ}
-use mathlib.Core.List.{List, [], _∷_}
-use mathlib.Core.Path.{_≡_, refl, sym, ap, _∙_}
+use mathlib.Core.List.{List}
+use mathlib.Core.Path.{ap}
 use native.Mathlib.Omega.{arith}
 use borrow.Author.Needs.{needs}
 use Rattle.image.proofs.push_pending.Statement.{statement}

@@ -1,67 +1,31 @@
+use Rattle.image.proofs.Places.{become, entry-put}
+use Rattle.image.proofs.Laying.{shown-laid}
 use Rattle.model.specs.Calls.{withX}
-use Rattle.image.proofs.Places.{facts, become, entry-put}
-use denote.Ref.{now}
+use mathlib.Core.Path.{refl}
 use native.Mathlib.Omega.{arith}
-use lib.ListN.{set, getD}
-use mathlib.Core.List.{List}
-use Prim.Native.Nat.{ℕ, _+_, _-_, _*_, _%_}
-use mathlib.Core.Path.{_≡_, refl, sym, ap, _∙_}
 use borrow.Author.Needs.{needs}
 use Rattle.image.proofs.put_level.Statement.{statement}
 use Rattle.image.proofs.put_level.Tie as tie
 use Rattle.image.proofs.put_level.Reads as reads
 use Rattle.image.proofs.put_level.Lts as lts
-use Rattle.image.proofs.wide.Reads as wide-reads
+use Rattle.image.proofs.put_entry_word.Reads as put-entry-word-reads
 
--- src/lib.rt:458:40
-wide-requires : tie.Need-wide-requires
-wide-requires c κs = search needs
-
--- src/lib.rt:458:26
-mul-image : tie.Need-mul-image
-mul-image c = search needs
-
--- src/lib.rt:458:11
-add-image : tie.Need-add-image
-add-image c = search needs
-
--- src/lib.rt:458:11
-add-image-2 : tie.Need-add-image-2
-add-image-2 c = search needs
-
--- src/lib.rt:458:5
-mul-image-2 : tie.Need-mul-image-2
-mul-image-2 c = search needs
-
--- src/lib.rt:458:5
-slice-write-image : tie.Need-slice-write-image
-slice-write-image c =
-    let f = facts (c .before .before .pre .0) in
+-- src/lib.rt:514:5
+put-entry-word-requires : tie.Need-put-entry-word-requires
+put-entry-word-requires c κs =
     let p = c .before .before .pre in
-    omega (arith, c .wide .ensures)
+    (shown-laid (p .0), (p .1, omega arith))
 
--- src/lib.rt:453:1
+-- src/lib.rt:509:1
 same-length : tie.Need-same-length
 same-length c = search needs
 
--- src/lib.rt:453:1
+-- src/lib.rt:509:1
 returns : tie.Need-returns
 returns c =
-    let s = c .before .before in
+    let s = c .before .before .before .before .before in
     let a = s .args in
-    let w = now (a .image) in
-    become (ap (λ (n : ℕ). set w (27 + 7 * n + 1) (a .l)) (c .wide .ensures))
-    (entry-put w (s .pre .0) (withX (a .l)) (a .i) 1 (a .l) (s .pre .1) (omega arith) refl)
+    become (c .before .before .put-entry-word .ensures) (entry-put _ (s .pre .0) (withX (a .l)) (a .i) 1 (a .l) (s .pre .1) (omega arith) refl)
 
 pub put-level-spec : {M : Type 1} → statement M
-put-level-spec =
-    tie.close
-    (tie.spec
-    wide-requires
-    mul-image
-    add-image
-    add-image-2
-    mul-image-2
-    slice-write-image
-    same-length
-    returns)
+put-level-spec = tie.close (tie.spec put-entry-word-requires same-length returns)

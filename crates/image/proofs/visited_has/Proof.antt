@@ -1,7 +1,7 @@
 use Rattle.image.proofs.Searching.{visited-by}
 use Rattle.model.specs.Table.{_⊑_}
 use denote.Ref.{now}
-use mathlib.Core.Path.{_≡_, refl, sym, ap, _∙_}
+use mathlib.Core.Path.{_∙_}
 use borrow.Author.Needs.{needs}
 use Rattle.image.proofs.visited_has.Statement.{statement}
 use Rattle.image.proofs.visited_has.Tie as tie
