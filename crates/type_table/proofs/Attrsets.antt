@@ -22,10 +22,10 @@ use Rattle.model.specs.declared.Dynamic.{Dynamic}
 use Rattle.laws.proofs.Entries.{more-length}
 use Rattle.laws.proofs.Formed.{sound-table}
 use Rattle.laws.proofs.Regions.{read-length}
-use Rattle.laws.proofs.Round.{words-length}
 use Rattle.image.specs.Shown.{Within, Shows, Shown, storeOf, entriesOf, fieldsIn, entriesTo, fieldsTo}
 use Rattle.image.specs.Records.{entryMade}
 use Rattle.image.proofs.Laying.{formed-shown, seen, shown}
+use Rattle.image.proofs.Pending.{same-size}
 use Rattle.type_table.specs.Made.{attrsetReply, firstField, entriesIn}
 use Rattle.type_table.proofs.Replies.{put-too-deep}
 use Rattle.type_table.proofs.Steps.{spread-none}
@@ -98,9 +98,7 @@ module _ (w₀ l : List ℕ) (i : ℕ) (w : List ℕ) (p : Fielded w₀ l i w) w
 
 pub same-length : (w v : List ℕ) (fs : List Field) → Shown w → Shows v (fieldsTo w fs) → length v ≡ length w
 unfolding withFields
-same-length w v fs s r =
-    ap length (r .is) ∙ words-length (fieldsTo w fs) (r .within .held) (r .within .pending)
-    ∙ sym (words-length (table w) (s .within .held) (s .within .pending)) ∙ sym (ap length (s .is))
+same-length w v fs s r = same-size r s refl
 
 -- the entry has the room that it had
 pub entry-room : (w v : List ℕ) (fs : List Field) → Shows v (fieldsTo w fs) → length (entriesOf w) < storeOf w .capacities .entries → length (entriesOf v) < storeOf v .capacities .entries

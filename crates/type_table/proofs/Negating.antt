@@ -6,7 +6,7 @@ use mathlib.Core.List.{List}
 use mathlib.Core.Logic.{⊎-elim}
 use lib.ListN.{length}
 use Rattle.model.specs.Format.{spreadMost, neg, inter, union}
-use Rattle.model.specs.Table.{Entry, Field, Table, withEntries, entryAt}
+use Rattle.model.specs.Table.{Entry, Table, withEntries, entryAt}
 use Rattle.model.specs.Image.{table}
 use Rattle.model.specs.Making.{Making, spreadAt, spreadOf, putEntry, newEntry, withNegation, cachedAs, makeNeg}
 use Rattle.laws.specs.Good.{EntriesGood}

@@ -1,7 +1,7 @@
 -- Entries taken off and cached numbers taken back, one by one: what the loops of undo keep. Assumes nothing.
 use Prim.Native.Nat.{ℕ, _+_, _-_, _≤_, _<_}
 use native.Mathlib.Omega.{arith}
-use mathlib.Core.Path.{_≡_, refl, sym, ap, subst, _∙_}
+use mathlib.Core.Path.{_≡_, refl, ap, subst, _∙_}
 use mathlib.Core.List.{List}
 use mathlib.Core.Logic.{⊎-elim}
 use lib.ListN.{length, take}
@@ -11,18 +11,16 @@ use Rattle.model.specs.Table.{Entry, Table, noEntry, entryAt, withEntries}
 use Rattle.model.specs.Image.{words, table}
 use Rattle.model.specs.Making.{changed, withNegation, reset, undone}
 use Rattle.laws.proofs.Entries.{lt-or-ge, same-or-not, changed-length, changed-at, changed-other}
-use Rattle.laws.proofs.Round.{words-length}
 use Rattle.laws.proofs.Undone.{undone-is}
 use Rattle.image.specs.Shown.{Shows, Shown, entriesOf, entriesTo}
 use Rattle.image.proofs.Laying.{seen, shown}
+use Rattle.image.proofs.Pending.{same-size}
 use Rattle.type_table.specs.Made.{entriesIn}
 
 -- as many words, and the entries that they show
 pub same-length : (w v : List ℕ) (es : List Entry) → Shown w → Shows v (entriesTo w es) → length v ≡ length w
 unfolding withEntries
-same-length w v es s r =
-    ap length (r .is) ∙ words-length (entriesTo w es) (r .within .held) (r .within .pending)
-    ∙ sym (words-length (table w) (s .within .held) (s .within .pending)) ∙ sym (ap length (s .is))
+same-length w v es s r = same-size r s refl
 
 pub seen-entries : (t : Table) (v : List ℕ) (es : List Entry) → Shows v (entriesIn t es) → entriesOf v ≡ es
 unfolding withEntries
