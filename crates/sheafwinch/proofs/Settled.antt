@@ -1,0 +1,76 @@
+-- Each call's contract settles its answer and every word of the image, for all inputs: any two outcomes that it allows are equal.
+-- `Post` is the contract itself, what the function ensures of its arguments, its result and the image at exit. Assumes nothing.
+use Prim.Native.Nat.{ℕ}
+use mathlib.Core.Path.{_≡_, sym, _∙_}
+use mathlib.Core.List.{List}
+use denote.Ref.{RefT}
+use Rattle.model.proofs.OneToOne.{reply-one-to-one, made-one-to-one, entry-read-one-to-one, disjointness-one-to-one}
+use Rattle.sheafwinch.proofs.make_variable.Reads as make-variable
+use Rattle.sheafwinch.proofs.make_primitive.Reads as make-primitive
+use Rattle.sheafwinch.proofs.make_list.Reads as make-list
+use Rattle.sheafwinch.proofs.make_lambda.Reads as make-lambda
+use Rattle.sheafwinch.proofs.make_named.Reads as make-named
+use Rattle.sheafwinch.proofs.make_neg.Reads as make-neg
+use Rattle.sheafwinch.proofs.make_inter.Reads as make-inter
+use Rattle.sheafwinch.proofs.make_union.Reads as make-union
+use Rattle.sheafwinch.proofs.mark.Reads as mark
+use Rattle.sheafwinch.proofs.put_bound.Reads as put-bound
+use Rattle.sheafwinch.proofs.enter.Reads as enter
+use Rattle.sheafwinch.proofs.exit.Reads as exit
+use Rattle.sheafwinch.proofs.set_level.Reads as set-level
+use Rattle.sheafwinch.proofs.entry.Reads as entry
+use Rattle.sheafwinch.proofs.disjoint.Reads as disjoint
+
+-- of a call that reads
+abbrev pub Settles : {K : Type 0} {A R E : K → Type 0} → ((κs : K) → A κs → R κs → E κs → Type 0) → Type 0
+Settles {K} {A} {R} {E} post = (κs : K) (a : A κs) (x y : R κs) (e f : E κs) → post κs a x e → post κs a y f → x ≡ y
+
+-- of a call that may change the image: `e .0 .now` is the image at exit
+abbrev pub SettlesAll : {K : Type 0} {A R X : K → Type 0} → ((κs : K) → A κs → R κs → RefT (List ℕ) × X κs → Type 0) → Type 0
+SettlesAll {K} {A} {R} {X} post =
+    (κs : K) (a : A κs) (x y : R κs) (e f : RefT (List ℕ) × X κs) → post κs a x e → post κs a y f → (x ≡ y) × (e .0 .now ≡ f .0 .now)
+
+pub make-variable-settled : SettlesAll make-variable.Post
+make-variable-settled κs a x y e f p q = (made-one-to-one x y (p .0 ∙ sym (q .0)), p .1 ∙ sym (q .1))
+
+pub make-primitive-settled : SettlesAll make-primitive.Post
+make-primitive-settled κs a x y e f p q = (made-one-to-one x y (p .0 ∙ sym (q .0)), p .1 ∙ sym (q .1))
+
+pub make-list-settled : SettlesAll make-list.Post
+make-list-settled κs a x y e f p q = (made-one-to-one x y (p .0 ∙ sym (q .0)), p .1 ∙ sym (q .1))
+
+pub make-lambda-settled : SettlesAll make-lambda.Post
+make-lambda-settled κs a x y e f p q = (made-one-to-one x y (p .0 ∙ sym (q .0)), p .1 ∙ sym (q .1))
+
+pub make-named-settled : SettlesAll make-named.Post
+make-named-settled κs a x y e f p q = (made-one-to-one x y (p .0 ∙ sym (q .0)), p .1 ∙ sym (q .1))
+
+pub make-neg-settled : SettlesAll make-neg.Post
+make-neg-settled κs a x y e f p q = (made-one-to-one x y (p .0 ∙ sym (q .0)), p .1 ∙ sym (q .1))
+
+pub make-inter-settled : SettlesAll make-inter.Post
+make-inter-settled κs a x y e f p q = (made-one-to-one x y (p .0 ∙ sym (q .0)), p .1 ∙ sym (q .1))
+
+pub make-union-settled : SettlesAll make-union.Post
+make-union-settled κs a x y e f p q = (made-one-to-one x y (p .0 ∙ sym (q .0)), p .1 ∙ sym (q .1))
+
+pub mark-settled : SettlesAll mark.Post
+mark-settled κs a x y e f p q = (reply-one-to-one x y (p .0 ∙ sym (q .0)), p .1 ∙ sym (q .1))
+
+pub put-bound-settled : SettlesAll put-bound.Post
+put-bound-settled κs a x y e f p q = (reply-one-to-one x y (p .0 ∙ sym (q .0)), p .1 ∙ sym (q .1))
+
+pub enter-settled : SettlesAll enter.Post
+enter-settled κs a x y e f p q = (reply-one-to-one x y (p .0 ∙ sym (q .0)), p .1 ∙ sym (q .1))
+
+pub exit-settled : SettlesAll exit.Post
+exit-settled κs a x y e f p q = (reply-one-to-one x y (p .0 ∙ sym (q .0)), p .1 ∙ sym (q .1))
+
+pub set-level-settled : SettlesAll set-level.Post
+set-level-settled κs a x y e f p q = (reply-one-to-one x y (p .0 ∙ sym (q .0)), p .1 ∙ sym (q .1))
+
+pub entry-settled : Settles entry.Post
+entry-settled κs a x y e f p q = entry-read-one-to-one x y (p ∙ sym q)
+
+pub disjoint-settled : Settles disjoint.Post
+disjoint-settled κs a x y e f p q = disjointness-one-to-one x y (p ∙ sym q)
