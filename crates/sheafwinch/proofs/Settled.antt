@@ -4,7 +4,8 @@ use Prim.Native.Nat.{ℕ}
 use mathlib.Core.Path.{_≡_, sym, _∙_}
 use mathlib.Core.List.{List}
 use denote.Ref.{RefT}
-use Rattle.model.proofs.OneToOne.{reply-one-to-one, made-one-to-one, entry-read-one-to-one, disjointness-one-to-one}
+use Rattle.model.proofs.OneToOne.{reply-one-to-one, made-one-to-one, entry-read-one-to-one, record-one-to-one, disjointness-one-to-one}
+use Rattle.sheafwinch.proofs.start.Reads as start
 use Rattle.sheafwinch.proofs.make_variable.Reads as make-variable
 use Rattle.sheafwinch.proofs.make_primitive.Reads as make-primitive
 use Rattle.sheafwinch.proofs.make_list.Reads as make-list
@@ -19,6 +20,7 @@ use Rattle.sheafwinch.proofs.enter.Reads as enter
 use Rattle.sheafwinch.proofs.exit.Reads as exit
 use Rattle.sheafwinch.proofs.set_level.Reads as set-level
 use Rattle.sheafwinch.proofs.entry.Reads as entry
+use Rattle.sheafwinch.proofs.record.Reads as record-call
 use Rattle.sheafwinch.proofs.disjoint.Reads as disjoint
 
 -- of a call that reads
@@ -29,6 +31,9 @@ Settles {K} {A} {R} {E} post = (κs : K) (a : A κs) (x y : R κs) (e f : E κs)
 abbrev pub SettlesAll : {K : Type 0} {A R X : K → Type 0} → ((κs : K) → A κs → R κs → RefT (List ℕ) × X κs → Type 0) → Type 0
 SettlesAll {K} {A} {R} {X} post =
     (κs : K) (a : A κs) (x y : R κs) (e f : RefT (List ℕ) × X κs) → post κs a x e → post κs a y f → (x ≡ y) × (e .0 .now ≡ f .0 .now)
+
+pub start-settled : SettlesAll start.Post
+start-settled κs a x y e f p q = (reply-one-to-one x y (p .0 ∙ sym (q .0)), p .1 ∙ sym (q .1))
 
 pub make-variable-settled : SettlesAll make-variable.Post
 make-variable-settled κs a x y e f p q = (made-one-to-one x y (p .0 ∙ sym (q .0)), p .1 ∙ sym (q .1))
@@ -71,6 +76,9 @@ set-level-settled κs a x y e f p q = (reply-one-to-one x y (p .0 ∙ sym (q .0)
 
 pub entry-settled : Settles entry.Post
 entry-settled κs a x y e f p q = entry-read-one-to-one x y (p ∙ sym q)
+
+pub record-settled : Settles record-call.Post
+record-settled κs a x y e f p q = record-one-to-one x y (p ∙ sym q)
 
 pub disjoint-settled : Settles disjoint.Post
 disjoint-settled κs a x y e f p q = disjointness-one-to-one x y (p ∙ sym q)

@@ -3,6 +3,7 @@
 use model::Disjointness;
 use model::EntryRead;
 use model::Made;
+use model::Record;
 use model::Refusal;
 use model::Reply;
 ghost use mathlib.Core.Path.{_≡_};
@@ -11,8 +12,10 @@ ghost use lib.Dec.{T};
 ghost use Rattle.model.specs.Format.{neg};
 ghost use Rattle.model.specs.Image.{table};
 ghost use Rattle.model.specs.Formed.{wellFormed};
-ghost use Rattle.model.specs.Calls.{replyOf, variableTurn, primitiveTurn, oneTurn, twoTurn, negTurn, markTurn, putBoundTurn, enterTurn, exitTurn, setLevelTurn, readEntryTurn, readDisjointTurn, perform, makesVariable, makesPrimitive, makesList, makesLambda, makesNamed, makesNeg, makesInter, makesUnion, marks, putsBound, enters, exits, setsLevel, readsEntry, readsDisjoint};
-ghost use Rattle.model.specs.Told.{toldMade, toldReply, toldEntryRead, toldDisjointness};
+ghost use Rattle.image.specs.Stores.{capacitiesOf};
+ghost use Rattle.model.specs.Calls.{replyOf, variableTurn, primitiveTurn, oneTurn, twoTurn, negTurn, markTurn, putBoundTurn, enterTurn, exitTurn, setLevelTurn, readEntryTurn, readRecordTurn, readDisjointTurn, perform, makesVariable, makesPrimitive, makesList, makesLambda, makesNamed, makesNeg, makesInter, makesUnion, marks, putsBound, enters, exits, setsLevel, readsEntry, readsRecord, readsDisjoint};
+ghost use Rattle.model.specs.Calls.{start as startOf};
+ghost use Rattle.model.specs.Told.{toldMade, toldReply, toldEntryRead, toldRecord, toldDisjointness};
 
 // Kinds.
 const VARIABLE: u32 = 0;
@@ -36,6 +39,14 @@ const NUMBER: u32 = 7;
 const UPPER: u32 = 1;
 
 const KIND: usize = 0;
+
+// Starts an image in the lent words, whatever stood there: idle, level and counts 0.
+pub fn start(image: &mut [u32], names: u32, functor: u32, capacities: image::Capacities) -> Reply
+    ensures { λ r. ⌜ toldReply r ≡ startOf names functor (capacitiesOf capacities) (now (image .entry)) .says ⌝ }
+    ensures { λ _. ⌜ now (image .exit) ≡ startOf names functor (capacitiesOf capacities) (now (image .entry)) .words ⌝ }
+{
+    image::start(image, names, functor, capacities)
+}
 
 // Makes a variable at the current level.
 pub fn make_variable(image: &mut [u32]) -> Made
@@ -359,6 +370,142 @@ fn entry_in(image: &[u32], n: u32) -> EntryRead
         return EntryRead::Refused(Refusal::BadNumber);
     }
     EntryRead::Entry(image::entry(image, n))
+}
+
+// Reads record n of a region, 1 to 6, as it stands.
+pub fn record(image: &[u32], region: u32, n: u32) -> Record
+    ensures { λ r. ⌜ toldRecord r ≡ perform (readsRecord region n) (now (image .entry)) .says ⌝ }
+{
+    if !formed::check(image) {
+        return Record::Refused(Refusal::BadTable);
+    }
+    record_in(image, region, n)
+}
+
+// A region's record.
+fn record_in(image: &[u32], region: u32, n: u32) -> Record
+    requires { ⌜ T (wellFormed (now image)) ⌝ }
+    ensures { λ r. ⌜ toldRecord r ≡ replyOf (now (image .entry)) (readRecordTurn region n (now (image .entry))) .says ⌝ }
+{
+    match region {
+        1 => entry_record(image, n),
+        2 => field_record(image, n),
+        3 => bound_record(image, n),
+        4 => visited_record(image, n),
+        5 => pending_record(image, n),
+        6 => equal_record(image, n),
+        _ => Record::Refused(Refusal::BadNumber),
+    }
+}
+
+// A record of region 1.
+fn entry_record(image: &[u32], n: u32) -> Record
+    requires { ⌜ T (wellFormed (now image)) ⌝ }
+    ensures { λ r. ⌜ toldRecord r ≡ replyOf (now (image .entry)) (readRecordTurn 1 n (now (image .entry))) .says ⌝ }
+{
+    if image::entries_count(image) <= n {
+        return Record::Refused(Refusal::BadNumber);
+    }
+    let kind_word = image::entry_word(image, n, 0);
+    let x_word = image::entry_word(image, n, 1);
+    let y_word = image::entry_word(image, n, 2);
+    let z_word = image::entry_word(image, n, 3);
+    let flags_word = image::entry_word(image, n, 4);
+    let spread_word = image::entry_word(image, n, 5);
+    let negation_word = image::entry_word(image, n, 6);
+    Record::Entry {
+        kind: kind_word,
+        x: x_word,
+        y: y_word,
+        z: z_word,
+        flags: flags_word,
+        spread: spread_word,
+        negation: negation_word,
+    }
+}
+
+// A record of region 2.
+fn field_record(image: &[u32], n: u32) -> Record
+    requires { ⌜ T (wellFormed (now image)) ⌝ }
+    ensures { λ r. ⌜ toldRecord r ≡ replyOf (now (image .entry)) (readRecordTurn 2 n (now (image .entry))) .says ⌝ }
+{
+    if image::fields_count(image) <= n {
+        return Record::Refused(Refusal::BadNumber);
+    }
+    let name_word = image::field_word(image, n, 0);
+    let entry_word = image::field_word(image, n, 1);
+    let optional_word = image::field_word(image, n, 2);
+    Record::Field {
+        name: name_word,
+        entry: entry_word,
+        optional: optional_word,
+    }
+}
+
+// A record of region 3.
+fn bound_record(image: &[u32], n: u32) -> Record
+    requires { ⌜ T (wellFormed (now image)) ⌝ }
+    ensures { λ r. ⌜ toldRecord r ≡ replyOf (now (image .entry)) (readRecordTurn 3 n (now (image .entry))) .says ⌝ }
+{
+    if image::bounds_count(image) <= n {
+        return Record::Refused(Refusal::BadNumber);
+    }
+    let variable_word = image::bound_word(image, n, 0);
+    let side_word = image::bound_word(image, n, 1);
+    let bound_word = image::bound_word(image, n, 2);
+    Record::Bound {
+        variable: variable_word,
+        side: side_word,
+        bound: bound_word,
+    }
+}
+
+// A record of region 4.
+fn visited_record(image: &[u32], n: u32) -> Record
+    requires { ⌜ T (wellFormed (now image)) ⌝ }
+    ensures { λ r. ⌜ toldRecord r ≡ replyOf (now (image .entry)) (readRecordTurn 4 n (now (image .entry))) .says ⌝ }
+{
+    if image::visited_count(image) <= n {
+        return Record::Refused(Refusal::BadNumber);
+    }
+    let sub_word = image::visited_word(image, n, 0);
+    let sup_word = image::visited_word(image, n, 1);
+    Record::Visited {
+        sub: sub_word,
+        sup: sup_word,
+    }
+}
+
+// A record of region 5.
+fn pending_record(image: &[u32], n: u32) -> Record
+    requires { ⌜ T (wellFormed (now image)) ⌝ }
+    ensures { λ r. ⌜ toldRecord r ≡ replyOf (now (image .entry)) (readRecordTurn 5 n (now (image .entry))) .says ⌝ }
+{
+    if image::pending_count(image) <= n {
+        return Record::Refused(Refusal::BadNumber);
+    }
+    let sub_word = image::pending_word(image, n, 0);
+    let sup_word = image::pending_word(image, n, 1);
+    Record::Pending {
+        sub: sub_word,
+        sup: sup_word,
+    }
+}
+
+// A record of region 6.
+fn equal_record(image: &[u32], n: u32) -> Record
+    requires { ⌜ T (wellFormed (now image)) ⌝ }
+    ensures { λ r. ⌜ toldRecord r ≡ replyOf (now (image .entry)) (readRecordTurn 6 n (now (image .entry))) .says ⌝ }
+{
+    if image::equals_count(image) <= n {
+        return Record::Refused(Refusal::BadNumber);
+    }
+    let left_word = image::equal_word(image, n, 0);
+    let right_word = image::equal_word(image, n, 1);
+    Record::Equal {
+        left: left_word,
+        right: right_word,
+    }
 }
 
 // Whether two entries share no value.
