@@ -1,0 +1,54 @@
+-- `built::entry_room::copied` is safe and ends: no index is past the 55 words, and what is left of them falls. Assumes nothing.
+use Prim.Native.Nat.{_≤_, _-_}
+use borrow.Author.Needs.{needs}
+use Rattle.built.proofs.entry_room.copied.Statement.{statement}
+use Rattle.built.proofs.entry_room.copied.Tie as tie
+
+abbrev Inv-loop : tie.InvT-loop
+Inv-loop words copy₀ at₀ copy at = at ≤ 55
+
+abbrev μ-loop : tie.MeasureT-loop
+μ-loop words copy₀ at₀ copy at = 55 - at
+
+loop-holds : tie.Need-loop-holds Inv-loop μ-loop
+loop-holds c = search needs
+
+mul-copy : tie.Need-mul-copy Inv-loop μ-loop
+mul-copy c = search needs
+
+shared-slice-read-copy : tie.Need-shared-slice-read-copy Inv-loop μ-loop
+shared-slice-read-copy c = search needs
+
+mul-copy-2 : tie.Need-mul-copy-2 Inv-loop μ-loop
+mul-copy-2 c = search needs
+
+array-write-copy : tie.Need-array-write-copy Inv-loop μ-loop
+array-write-copy c = search needs
+
+add-at : tie.Need-add-at Inv-loop μ-loop
+add-at c = search needs
+
+loop-less : tie.Need-loop-less Inv-loop μ-loop
+loop-less c = search needs
+
+loop-again : tie.Need-loop-again Inv-loop μ-loop
+loop-again c = search needs
+
+returns : tie.Need-returns Inv-loop μ-loop
+returns c = search needs
+
+pub copied-spec : {M : Type 1} → statement M
+copied-spec =
+    tie.close
+    (tie.spec
+    Inv-loop
+    μ-loop
+    loop-holds
+    mul-copy
+    shared-slice-read-copy
+    mul-copy-2
+    array-write-copy
+    add-at
+    loop-less
+    loop-again
+    returns)

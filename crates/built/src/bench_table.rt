@@ -1,0 +1,76 @@
+// The bench table of document 01, made by the calls up to its entry 7, and the words of its image.
+// proofs/Words.antt says that the model makes the same words.
+use crate::print;
+use crate::print_number;
+ghost use mathlib.Core.Path.{_≡_};
+ghost use lib.ListN.{length};
+
+// The table's words, 16 to a line.
+pub fn print_table() {
+    print(b"The bench table's words, with its entries 0 to 7:");
+    let mut words = room();
+    make_table(&mut words);
+    print_words(&words);
+    print(b"\n");
+}
+
+// The words of an image with the bench's capacities, before it is started.
+fn room() -> [u32; 283]
+    ensures { λ r. ⌜ 283 ≡ length r ⌝ }
+{
+    [7u32; 283]
+}
+
+// How many records each region takes.
+fn capacities() -> image::Capacities {
+    image::Capacities {
+        entries: 24,
+        fields: 8,
+        bounds: 8,
+        visited: 8,
+        pending: 8,
+        equals: 4,
+    }
+}
+
+// The table, from nothing.
+fn make_table(words: &mut [u32]) {
+    sheafwinch::start(words, 3, 1, capacities());
+    make_primitives(words);
+    make_others(words);
+}
+
+// Entries 0 Int, 1 Number, 2 Float, 3 String.
+fn make_primitives(words: &mut [u32]) {
+    sheafwinch::make_primitive(words, 2);
+    sheafwinch::make_primitive(words, 7);
+    sheafwinch::make_primitive(words, 3);
+    sheafwinch::make_primitive(words, 4);
+}
+
+// Entries 4 and 5 variables, 6 union(1, 0), 7 neg 0.
+fn make_others(words: &mut [u32]) {
+    sheafwinch::make_variable(words);
+    sheafwinch::make_variable(words);
+    sheafwinch::make_union(words, 1, 0);
+    sheafwinch::make_neg(words, 0);
+}
+
+// All words in order.
+fn print_words(words: &[u32]) {
+    let mut at = 0;
+    while at < words.len() {
+        print_break(at);
+        print_number(words[at]);
+        at += 1;
+    }
+}
+
+// What stands before a word: a line's first begins it.
+fn print_break(at: usize) {
+    if at % 16 == 0 {
+        print(b"\n");
+    } else {
+        print(b" ");
+    }
+}
