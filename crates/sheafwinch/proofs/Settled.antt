@@ -10,6 +10,7 @@ use Rattle.sheafwinch.proofs.make_variable.Reads as make-variable
 use Rattle.sheafwinch.proofs.make_primitive.Reads as make-primitive
 use Rattle.sheafwinch.proofs.make_list.Reads as make-list
 use Rattle.sheafwinch.proofs.make_lambda.Reads as make-lambda
+use Rattle.sheafwinch.proofs.make_attrset.Reads as make-attrset
 use Rattle.sheafwinch.proofs.make_named.Reads as make-named
 use Rattle.sheafwinch.proofs.make_neg.Reads as make-neg
 use Rattle.sheafwinch.proofs.make_inter.Reads as make-inter
@@ -46,6 +47,9 @@ make-list-settled κs a x y e f p q = (made-one-to-one x y (p .0 ∙ sym (q .0))
 
 pub make-lambda-settled : SettlesAll make-lambda.Post
 make-lambda-settled κs a x y e f p q = (made-one-to-one x y (p .0 ∙ sym (q .0)), p .1 ∙ sym (q .1))
+
+pub make-attrset-settled : SettlesAll make-attrset.Post
+make-attrset-settled κs a x y e f p q = (made-one-to-one x y (p .0 ∙ sym (q .0)), p .1 ∙ sym (q .1))
 
 pub make-named-settled : SettlesAll make-named.Post
 make-named-settled κs a x y e f p q = (made-one-to-one x y (p .0 ∙ sym (q .0)), p .1 ∙ sym (q .1))

@@ -14,10 +14,10 @@ use Rattle.model.specs.Format.{variable, upper, isRegion}
 use Rattle.model.specs.Table.{Entry, Table, isAsked, entryAt, is, isAt}
 use Rattle.model.specs.Image.{words, table, offset, count, recordsOf}
 use Rattle.model.specs.Formed.{wellFormed, isEntry}
-use Rattle.model.specs.Calls.{Reply, Turn, refuse, leave, replyOf, onTable, whenIdle, whenNumbered, whenVariable, Call, turnOf, perform}
+use Rattle.model.specs.Calls.{Reply, Turn, refuse, leave, replyOf, onTable, whenIdle, whenNumbered, whenListed, whenVariable, Call, turnOf, perform}
 use Rattle.model.specs.Told.{Told, done, toldRefusal}
 use Rattle.model.specs.declared.Refusal.{Refusal}
-use Rattle.model.specs.declared.Refusal.the-variants.{BadTable, BadNumber, Busy, NotAVariable}
+use Rattle.model.specs.declared.Refusal.the-variants.{BadTable, BadNumber, Busy, BadFields, NotAVariable}
 use Rattle.laws.proofs.Tests.{true-of}
 use Rattle.laws.proofs.Regions.{Coded}
 use Rattle.image.proofs.Reading.{read-at}
@@ -53,6 +53,15 @@ module _ (w : List ℕ) where
   pub idle : (turn : Turn) → isAsked (table w) ≡ false → {a : Told} {v : List ℕ} → Replies a v (replyOf w turn) → Replies a v (replyOf w (whenIdle (table w) turn))
   unfolding whenIdle
   idle turn e k = rw e k
+
+  -- 7
+  pub unlisted : (turn : Turn) (ok : Bool) → ok ≡ false → Replies (toldRefusal BadFields) w (replyOf w (whenListed ok turn))
+  unfolding whenListed
+  unlisted turn ok e = rw e (refused-as w BadFields)
+
+  pub listed-as : (turn : Turn) (ok : Bool) → ok ≡ true → {a : Told} {v : List ℕ} → Replies a v (replyOf w turn) → Replies a v (replyOf w (whenListed ok turn))
+  unfolding whenListed
+  listed-as turn ok e k = rw e k
 
   -- 2
   pub misnumbered : (turn : Turn) (ok : Bool) → ok ≡ false → Replies (toldRefusal BadNumber) w (replyOf w (whenNumbered ok turn))

@@ -1,6 +1,7 @@
 // The calls on an image. Each tests the image first, refuses in document 01's order, and leaves every word as found where it refuses;
 // its contract is the model's definition of that call: `perform` in crates/model/specs/Calls.antt.
 use model::Disjointness;
+use model::Dynamic;
 use model::EntryRead;
 use model::Made;
 use model::Record;
@@ -12,10 +13,11 @@ ghost use lib.Dec.{T};
 ghost use Rattle.model.specs.Format.{neg};
 ghost use Rattle.model.specs.Image.{table};
 ghost use Rattle.model.specs.Formed.{wellFormed};
-ghost use Rattle.image.specs.Stores.{capacitiesOf};
-ghost use Rattle.model.specs.Calls.{replyOf, variableTurn, primitiveTurn, oneTurn, twoTurn, negTurn, markTurn, putBoundTurn, enterTurn, exitTurn, setLevelTurn, readEntryTurn, readRecordTurn, readDisjointTurn, perform, makesVariable, makesPrimitive, makesList, makesLambda, makesNamed, makesNeg, makesInter, makesUnion, marks, putsBound, enters, exits, setsLevel, readsEntry, readsRecord, readsDisjoint};
+ghost use Rattle.model.specs.Calls.{replyOf, variableTurn, primitiveTurn, oneTurn, twoTurn, negTurn, attrsetTurn, dynamicKnown, markTurn, putBoundTurn, enterTurn, exitTurn, setLevelTurn, readEntryTurn, readRecordTurn, readDisjointTurn, perform, makesVariable, makesPrimitive, makesList, makesLambda, makesAttrset, makesNamed, makesNeg, makesInter, makesUnion, marks, putsBound, enters, exits, setsLevel, readsEntry, readsRecord, readsDisjoint};
 ghost use Rattle.model.specs.Calls.{start as startOf};
 ghost use Rattle.model.specs.Told.{toldMade, toldReply, toldEntryRead, toldRecord, toldDisjointness};
+ghost use Rattle.image.specs.Shown.{entriesOf};
+ghost use Rattle.image.specs.Stores.{capacitiesOf};
 
 // Kinds.
 const VARIABLE: u32 = 0;
@@ -211,6 +213,49 @@ fn neg_in(image: &mut [u32], n: u32) -> Made
         return Made::Refused(Refusal::BadNumber);
     }
     type_table::make_neg(image, n)
+}
+
+// Makes an attrset with the fields of a list, triples of a name, an entry and optional.
+pub fn make_attrset(image: &mut [u32], fields: &[u32], is_open: bool, dynamic: Dynamic) -> Made
+    ensures { λ r. ⌜ toldMade r ≡ perform (makesAttrset (now (fields .entry)) is_open dynamic) (now (image .entry)) .says ⌝ }
+    ensures { λ _. ⌜ now (image .exit) ≡ perform (makesAttrset (now (fields .entry)) is_open dynamic) (now (image .entry)) .words ⌝ }
+{
+    if !formed::check(image) {
+        return Made::Refused(Refusal::BadTable);
+    }
+    attrset_in(image, fields, is_open, dynamic)
+}
+
+// Whether a dynamic type, where there is one, is an entry.
+fn dynamic_known(image: &[u32], dynamic: Dynamic) -> bool
+    requires { ⌜ T (wellFormed (now image)) ⌝ }
+    ensures { λ r. ⌜ r ≡ dynamicKnown (entriesOf (now (image .entry))) dynamic ⌝ }
+{
+    match dynamic {
+        Dynamic::Absent => true,
+        Dynamic::Present(n) => n < image::entries_count(image),
+    }
+}
+
+// An attrset.
+fn attrset_in(image: &mut [u32], fields: &[u32], is_open: bool, dynamic: Dynamic) -> Made
+    requires { ⌜ T (wellFormed (now image)) ⌝ }
+    ensures { λ r. ⌜ toldMade r ≡ replyOf (now (image .entry)) (attrsetTurn (now (fields .entry)) is_open dynamic (table (now (image .entry)))) .says ⌝ }
+    ensures { λ _. ⌜ now (image .exit) ≡ replyOf (now (image .entry)) (attrsetTurn (now (fields .entry)) is_open dynamic (table (now (image .entry)))) .words ⌝ }
+{
+    if image::is_asked(image) {
+        return Made::Refused(Refusal::Busy);
+    }
+    if !field_list::listed(image::name_count(image), fields) {
+        return Made::Refused(Refusal::BadFields);
+    }
+    if !field_list::known(image::entries_count(image), fields) {
+        return Made::Refused(Refusal::BadNumber);
+    }
+    if !dynamic_known(image, dynamic) {
+        return Made::Refused(Refusal::BadNumber);
+    }
+    type_table::make_attrset(image, fields, is_open, dynamic)
 }
 
 // Sets the default mark of an entry.

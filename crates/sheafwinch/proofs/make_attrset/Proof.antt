@@ -1,0 +1,44 @@
+use mathlib.Core.Path.{_≡_, sym, _∙_}
+use mathlib.Core.Bool.{false}
+use lib.Dec.{T}
+use denote.Ref.{now}
+use borrow.Author.Tests.{not-true, not-false}
+use borrow.Author.Needs.{needs}
+use Rattle.model.specs.Formed.{wellFormed}
+use Rattle.model.specs.Calls.{turnOf, makesAttrset}
+use Rattle.laws.proofs.Tests.{of-true}
+use Rattle.sheafwinch.proofs.Turning.{bad-table, good-table}
+use Rattle.sheafwinch.proofs.make_attrset.Statement.{statement}
+use Rattle.sheafwinch.proofs.make_attrset.Tie as tie
+
+check-requires : tie.Need-check-requires
+check-requires c κs = search needs
+
+same-length : tie.Need-same-length
+same-length c = search needs
+
+returns : tie.Need-returns
+returns c =
+    let s = c .before .before .before .before .before in
+    let e : wellFormed (now (s .args .image)) ≡ false = sym (c .before .check .ensures) ∙ not-true _ (c .if1 .taken) in
+    let k = bad-table (makesAttrset (now (s .args .fields)) (s .args .is-open) (s .args .dynamic)) (now (s .args .image)) e in
+    (k .says, k .leaves)
+
+attrset-in-requires : tie.Need-attrset-in-requires
+attrset-in-requires c κs =
+    of-true _ (sym (c .before .before .check .ensures) ∙ not-false _ (c .before .if1 .left))
+
+same-length-2 : tie.Need-same-length-2
+same-length-2 c = search needs
+
+returns-2 : tie.Need-returns-2
+unfolding turnOf
+returns-2 c =
+    let s = c .before .before .before .before .before .before .before .before .before in
+    let h : T (wellFormed (now (s .args .image))) = of-true _ (sym (c .before .before .before .before .before .check .ensures) ∙ not-false _ (c .before .before .before .before .if1 .left)) in
+    let k = good-table (makesAttrset (now (s .args .fields)) (s .args .is-open) (s .args .dynamic)) (now (s .args .image)) h (record { says = c .before .before .attrset-in .ensures .0; leaves = c .before .before .attrset-in .ensures .1 }) in
+    (k .says, k .leaves)
+
+pub make-attrset-spec : {M : Type 1} → statement M
+make-attrset-spec =
+    tie.close (tie.spec check-requires same-length returns attrset-in-requires same-length-2 returns-2)
