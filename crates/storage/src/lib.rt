@@ -28,7 +28,7 @@ const BOUNDS: u32 = 3;
 const LEVEL_MOST: u32 = 4294967295;
 
 // Whether bound record i is one of the variable v on that side.
-fn belongs(image: &[u32], i: u32, v: u32, side: u32) -> bool
+pub fn belongs(image: &[u32], i: u32, v: u32, side: u32) -> bool
     requires { ⌜ Laid (now image) ⌝ }
     requires { ⌜ i < length (boundsAll (now image)) ⌝ }
     ensures { λ r. ⌜ r ≡ belongsTo v side (boundAt (boundsAll (now (image .entry))) i) ⌝ }

@@ -1,0 +1,493 @@
+// One step of a question: takes the last pair off pending, decides, makes entries, tests its needs region by region and then depth,
+// and applies what was decided, or fails, or is refused with nothing done. Its contract is the model's rule and room.
+use constrain::Ask;
+use constrain::Next;
+use constrain::Pairs;
+use model::Attrset;
+use model::Dynamic;
+use model::Failure;
+use model::Refusal;
+use type_table::Negated;
+ghost use mathlib.Core.Path.{_≡_};
+ghost use mathlib.Core.List.{[], _∷_, _++_, reverse, map};
+ghost use Prim.Native.Nat.{_+_, _≤_, _<_};
+ghost use lib.ListN.{length, take};
+ghost use lib.Dec.{T};
+ghost use Rattle.instalments.specs.Machine.{goes};
+ghost use Rattle.model.specs.Table.{_⊑_, tableOf};
+ghost use Rattle.model.specs.Image.{table};
+ghost use Rattle.model.specs.Formed.{wellFormed};
+ghost use Rattle.model.specs.Making.{tooDeep, boundsIn, repeats, addBound};
+ghost use Rattle.model.specs.Rules.{rule, visit, failing, fillBreak, passMark};
+ghost use Rattle.laws.specs.Good.{Good, Shallow};
+ghost use Rattle.image.specs.Laid.{Laid};
+ghost use Rattle.image.specs.Shown.{Shows, Shown, storeOf, entriesOf, fieldsIn, boundsAll, visitedIn, pendingIn, pendingTo};
+ghost use Rattle.disjoint.specs.Fields.{Inside};
+ghost use Rattle.type_table.specs.Made.{Negatable};
+ghost use Rattle.constrain.specs.Fields.{fieldPairs, dynamicPairs};
+ghost use Rattle.constrain.specs.Next.{pairsIn, PairsRight, Applicable};
+ghost use Rattle.constrain.specs.declared.Next.the-variants.{Isolate, Functor, Upper, Lower};
+ghost use Rattle.step.specs.Taken.{beforeLast, lastPair, taken, outcomeFor, RoomFor, RoomForBound};
+ghost use Rattle.step.specs.Made.{TargetIn, settled};
+ghost use Rattle.step.specs.Put.{fieldPair, boundPair, countIn};
+
+// Where an entry has its kind, its flags and how far it spreads, and a field or bound record its entry.
+const KIND: usize = 0;
+
+const FLAGS: usize = 4;
+
+const SPREAD: usize = 5;
+
+const FIELD_ENTRY: usize = 1;
+
+const BOUND: usize = 2;
+
+const VARIABLE: u32 = 0;
+
+const LAMBDA: u32 = 3;
+
+const UNION: u32 = 8;
+
+const LOWER: u32 = 0;
+
+const UPPER: u32 = 1;
+
+// Break kinds.
+const MISMATCHED: u32 = 1;
+
+const FIELD_MISSING: u32 = 2;
+
+// The region that lacks a record.
+const ENTRIES: u32 = 1;
+
+const BOUNDS: u32 = 3;
+
+const VISITED: u32 = 4;
+
+const PENDING: u32 = 5;
+
+// No new entry spreads further.
+const SPREAD_MOST: u32 = 1024;
+
+// What a step comes to.
+pub enum Step {
+    Went,
+    Failed(Failure),
+    Refused(Refusal),
+}
+
+// Whether a step has room.
+pub enum Room {
+    Enough,
+    Lacks(Refusal),
+}
+
+// Records the pair as visited and takes the last one off pending.
+fn advance(image: &mut [u32], sub: u32, sup: u32)
+    requires { ⌜ Shown (now image) ⌝ }
+    requires { ⌜ length (visitedIn (now image)) < storeOf (now image) .capacities .visited ⌝ }
+    requires { ⌜ 0 < length (pendingIn (now image)) ⌝ }
+    ensures { λ _. ⌜ Shows (now (image .exit)) (tableOf (visit (sub ⊑ sup) (storeOf (now (image .entry)))) (beforeLast (now (image .entry)))) ⌝ }
+{
+    image::push_visited(image, sub, sup);
+    image::pop_pending(image);
+}
+
+// Whether there is room for a visited pair and so many consequences, the pair taken off first.
+fn room_for(image: &[u32], more: u32) -> Room
+    requires { ⌜ T (wellFormed (now image)) ⌝ }
+    requires { ⌜ 0 < length (pendingIn (now image)) ⌝ }
+    ensures { λ r. ⌜ RoomFor (now (image .entry)) (storeOf (now (image .entry))) more r ⌝ }
+{
+    if image::visited_capacity(image) <= image::visited_count(image) {
+        return Room::Lacks(Refusal::NoRoom(VISITED));
+    }
+    let others = image::pending_count(image) - 1;
+    if image::pending_capacity(image) - others < more {
+        return Room::Lacks(Refusal::NoRoom(PENDING));
+    }
+    Room::Enough
+}
+
+// Writes the break words, unless an earlier failure stands there.
+fn fill_break(image: &mut [u32], failure: Failure)
+    requires { ⌜ Shown (now image) ⌝ }
+    ensures { λ _. ⌜ Shows (now (image .exit)) (tableOf (fillBreak failure (storeOf (now (image .entry)))) (pendingIn (now (image .entry)))) ⌝ }
+{
+    if image::break_kind(image) != 0 {
+        return;
+    }
+    match failure {
+        Failure::Mismatch { sub, sup } => image::put_break(image, MISMATCHED, sub, sup, 0),
+        Failure::MissingField { sub, sup, name } => {
+            image::put_break(image, FIELD_MISSING, sub, sup, name)
+        }
+    }
+}
+
+// Fails: the visited pair is kept, pending is emptied.
+fn fail(image: &mut [u32], sub: u32, sup: u32, failure: Failure) -> Step
+    requires { ⌜ T (wellFormed (now image)) ⌝ }
+    requires { ⌜ 0 < length (pendingIn (now image)) ⌝ }
+    ensures { λ r. ⌜ r ≡ taken (now (image .entry)) (failing (visit (sub ⊑ sup) (storeOf (now (image .entry)))) failure) .says ⌝ }
+    ensures { λ _. ⌜ now (image .exit) ≡ taken (now (image .entry)) (failing (visit (sub ⊑ sup) (storeOf (now (image .entry)))) failure) .words ⌝ }
+{
+    let room = room_for(image, 0);
+    if let Room::Lacks(r) = room {
+        return Step::Refused(r);
+    }
+    image::push_visited(image, sub, sup);
+    image::clear_pending(image);
+    fill_break(image, failure);
+    Step::Failed(failure)
+}
+
+// Puts what field record j asks of a on pending, if it asks for a pair.
+fn put_field_pair(image: &mut [u32], a: Attrset, j: u32)
+    requires { ⌜ Shown (now image) ⌝ }
+    requires { ⌜ Inside (fieldsIn (now image)) a ⌝ }
+    requires { ⌜ j < length (fieldsIn (now image)) ⌝ }
+    requires { ⌜ length (pendingIn (now image)) + length (fieldPair (fieldsIn (now image)) a j) ≤ storeOf (now image) .capacities .pending ⌝ }
+    ensures { λ _. ⌜ Shows (now (image .exit)) (pendingTo (now (image .entry)) (pendingIn (now (image .entry)) ++ fieldPair (fieldsIn (now (image .entry))) a j)) ⌝ }
+{
+    let ask = constrain::asks(image, a, j);
+    if let Ask::Under(x) = ask {
+        let entry = image::field_word(image, j, FIELD_ENTRY);
+        image::push_pending(image, x, entry);
+    }
+}
+
+// Puts the pair of the dynamic types on pending, if both have one.
+fn put_dynamic_pair(image: &mut [u32], a: Dynamic, b: Dynamic)
+    requires { ⌜ Shown (now image) ⌝ }
+    requires { ⌜ length (pendingIn (now image)) + length (dynamicPairs a b) ≤ storeOf (now image) .capacities .pending ⌝ }
+    ensures { λ _. ⌜ Shows (now (image .exit)) (pendingTo (now (image .entry)) (pendingIn (now (image .entry)) ++ dynamicPairs a b)) ⌝ }
+{
+    if let Dynamic::Present(m) = a {
+        if let Dynamic::Present(n) = b {
+            image::push_pending(image, m, n);
+        }
+    }
+}
+
+// Puts the pairs of sup's fields and of the dynamic types on pending, last first.
+fn put_field_pairs(image: &mut [u32], a: Attrset, b: Attrset)
+    requires { ⌜ Shown (now image) ⌝ }
+    requires { ⌜ Inside (fieldsIn (now image)) a ⌝ }
+    requires { ⌜ Inside (fieldsIn (now image)) b ⌝ }
+    requires { ⌜ length (pendingIn (now image)) + length (fieldPairs (fieldsIn (now image)) a b) ≤ storeOf (now image) .capacities .pending ⌝ }
+    ensures { λ _. ⌜ Shows (now (image .exit)) (pendingTo (now (image .entry)) (pendingIn (now (image .entry)) ++ reverse (fieldPairs (fieldsIn (now (image .entry))) a b))) ⌝ }
+{
+    put_dynamic_pair(image, a.dynamic, b.dynamic);
+    let mut j = b.first + b.count;
+    while b.first < j {
+        j -= 1;
+        put_field_pair(image, a, j);
+    }
+}
+
+// How many consequences there are.
+fn count_of(pairs: Pairs) -> u32
+    ensures { λ r. ⌜ r ≡ countIn pairs ⌝ }
+{
+    match pairs {
+        Pairs::Nothing => 0,
+        Pairs::One(_, _) => 1,
+        Pairs::Two(_, _, _, _) => 2,
+        Pairs::Fields(_, _, n) => n,
+    }
+}
+
+// Puts the consequences on pending, last first.
+fn put_pairs(image: &mut [u32], pairs: Pairs)
+    requires { ⌜ Shown (now image) ⌝ }
+    requires { ⌜ PairsRight (fieldsIn (now image)) pairs ⌝ }
+    requires { ⌜ length (pendingIn (now image)) + length (pairsIn (fieldsIn (now image)) pairs) ≤ storeOf (now image) .capacities .pending ⌝ }
+    ensures { λ _. ⌜ Shows (now (image .exit)) (pendingTo (now (image .entry)) (pendingIn (now (image .entry)) ++ reverse (pairsIn (fieldsIn (now (image .entry))) pairs))) ⌝ }
+{
+    match pairs {
+        Pairs::Nothing => {}
+        Pairs::One(a, b) => image::push_pending(image, a, b),
+        Pairs::Two(a, b, c, d) => {
+            image::push_pending(image, c, d);
+            image::push_pending(image, a, b)
+        }
+        Pairs::Fields(a, b, _) => put_field_pairs(image, a, b),
+    }
+}
+
+// Goes on with consequences that need nothing made.
+fn follow(image: &mut [u32], sub: u32, sup: u32, pairs: Pairs) -> Step
+    requires { ⌜ T (wellFormed (now image)) ⌝ }
+    requires { ⌜ 0 < length (pendingIn (now image)) ⌝ }
+    requires { ⌜ PairsRight (fieldsIn (now image)) pairs ⌝ }
+    ensures { λ r. ⌜ r ≡ taken (now (image .entry)) (goes (visit (sub ⊑ sup) (storeOf (now (image .entry)))) (pairsIn (fieldsIn (now (image .entry))) pairs)) .says ⌝ }
+    ensures { λ _. ⌜ now (image .exit) ≡ taken (now (image .entry)) (goes (visit (sub ⊑ sup) (storeOf (now (image .entry)))) (pairsIn (fieldsIn (now (image .entry))) pairs)) .words ⌝ }
+{
+    let room = room_for(image, count_of(pairs));
+    if let Room::Lacks(r) = room {
+        return Step::Refused(r);
+    }
+    advance(image, sub, sup);
+    put_pairs(image, pairs);
+    Step::Went
+}
+
+// Makes sup or the negation of d, entry by entry, as far as there is room.
+fn make_target(image: &mut [u32], sup: u32, d: u32) -> Negated
+    requires { ⌜ Negatable (now image) d ⌝ }
+    requires { ⌜ Good (storeOf (now image)) ⌝ }
+    requires { ⌜ Shallow (entriesOf (now image)) ⌝ }
+    requires { ⌜ sup < length (entriesOf (now image)) ⌝ }
+    ensures { λ r. ⌜ TargetIn (table (now (image .entry))) sup d r (now (image .exit)) ⌝ }
+{
+    let Negated::Number(n) = type_table::negate(image, d) else {
+        return Negated::Full;
+    };
+    if disjoint::union_member(image, n, sup) {
+        return Negated::Number(sup);
+    }
+    let number = image::entries_count(image);
+    if image::entries_capacity(image) <= number {
+        return Negated::Full;
+    }
+    let spread = 1 + image::entry_word(image, sup, SPREAD) + image::entry_word(image, n, SPREAD);
+    image::push_entry(image, UNION, sup, n, 0, 0, spread);
+    Negated::Number(number)
+}
+
+// Whether an entry from number old on spreads too far.
+fn is_deep(image: &[u32], old: u32) -> bool
+    requires { ⌜ Laid (now image) ⌝ }
+    requires { ⌜ old ≤ length (entriesOf (now image)) ⌝ }
+    requires { ⌜ Shallow (take old (entriesOf (now image))) ⌝ }
+    ensures { λ r. ⌜ r ≡ tooDeep (entriesOf (now (image .entry))) ⌝ }
+{
+    let mut i = old;
+    while i < image::entries_count(image) {
+        if SPREAD_MOST < image::entry_word(image, i, SPREAD) {
+            return true;
+        }
+        i += 1;
+    }
+    false
+}
+
+// Goes on with one consequence, entries from number old on made for it: undoes them where the step lacks room or goes too deep.
+fn settle(image: &mut [u32], old: u32, sub: u32, sup: u32, c: u32, target: u32) -> Step
+    requires { ⌜ Shown (now image) ⌝ }
+    requires { ⌜ 0 < length (pendingIn (now image)) ⌝ }
+    requires { ⌜ old ≤ length (entriesOf (now image)) ⌝ }
+    requires { ⌜ Shallow (take old (entriesOf (now image))) ⌝ }
+    ensures { λ r. ⌜ r ≡ settled (now (image .entry)) old (sub ⊑ sup) (c ⊑ target) .says ⌝ }
+    ensures { λ _. ⌜ now (image .exit) ≡ settled (now (image .entry)) old (sub ⊑ sup) (c ⊑ target) .words ⌝ }
+{
+    if image::visited_capacity(image) <= image::visited_count(image) {
+        type_table::undo(image, old);
+        return Step::Refused(Refusal::NoRoom(VISITED));
+    }
+    if is_deep(image, old) {
+        type_table::undo(image, old);
+        return Step::Refused(Refusal::TooDeep);
+    }
+    advance(image, sub, sup);
+    image::push_pending(image, c, target);
+    Step::Went
+}
+
+// An inter's chosen side c, under sup or the negation of the other side d.
+fn isolate(image: &mut [u32], sub: u32, sup: u32, c: u32, d: u32) -> Step
+    requires { ⌜ T (wellFormed (now image)) ⌝ }
+    requires { ⌜ 0 < length (pendingIn (now image)) ⌝ }
+    requires { ⌜ sup < length (entriesOf (now image)) ⌝ }
+    requires { ⌜ d < length (entriesOf (now image)) ⌝ }
+    ensures { λ r. ⌜ r ≡ taken (now (image .entry)) (outcomeFor (storeOf (now (image .entry))) (sub ⊑ sup) (Isolate c d)) .says ⌝ }
+    ensures { λ _. ⌜ now (image .exit) ≡ taken (now (image .entry)) (outcomeFor (storeOf (now (image .entry))) (sub ⊑ sup) (Isolate c d)) .words ⌝ }
+{
+    let old = image::entries_count(image);
+    let Negated::Number(target) = make_target(image, sup, d) else {
+        type_table::undo(image, old);
+        return Step::Refused(Refusal::NoRoom(ENTRIES)); // however deep it would go
+    };
+    settle(image, old, sub, sup, c, target)
+}
+
+// The type f of the field `__functor`, under a lambda from sub to lambda(param, body).
+fn functor(image: &mut [u32], sub: u32, sup: u32, f: u32, param: u32, body: u32) -> Step
+    requires { ⌜ T (wellFormed (now image)) ⌝ }
+    requires { ⌜ 0 < length (pendingIn (now image)) ⌝ }
+    ensures { λ r. ⌜ r ≡ taken (now (image .entry)) (outcomeFor (storeOf (now (image .entry))) (sub ⊑ sup) (Functor f param body)) .says ⌝ }
+    ensures { λ _. ⌜ now (image .exit) ≡ taken (now (image .entry)) (outcomeFor (storeOf (now (image .entry))) (sub ⊑ sup) (Functor f param body)) .words ⌝ }
+{
+    let old = image::entries_count(image);
+    if image::entries_capacity(image) - old < 2 {
+        return Step::Refused(Refusal::NoRoom(ENTRIES));
+    }
+    image::push_entry(image, LAMBDA, param, body, 0, 0, 1);
+    image::push_entry(image, LAMBDA, sub, old, 0, 0, 1);
+    settle(image, old, sub, sup, f, old + 1)
+}
+
+// Whether there is room for a bound, unless it repeats one, and for the rest of the step.
+fn room_for_bound(image: &[u32], repeated: bool, more: u32) -> Room
+    requires { ⌜ T (wellFormed (now image)) ⌝ }
+    requires { ⌜ 0 < length (pendingIn (now image)) ⌝ }
+    ensures { λ r. ⌜ RoomForBound (now (image .entry)) repeated more r ⌝ }
+{
+    if repeated {
+        return room_for(image, more);
+    }
+    if image::bounds_capacity(image) <= image::bounds_count(image) {
+        return Room::Lacks(Refusal::NoRoom(BOUNDS));
+    }
+    room_for(image, more)
+}
+
+// Adds a bound, unless it repeats one.
+fn add_bound(image: &mut [u32], repeated: bool, v: u32, side: u32, b: u32)
+    requires { ⌜ Shown (now image) ⌝ }
+    requires { ⌜ repeated ≡ repeats (boundsIn (boundsAll (now image)) v side) b ⌝ }
+    requires { ⌜ length (addBound v side b (storeOf (now image)) .bounds) ≤ storeOf (now image) .capacities .bounds ⌝ }
+    ensures { λ _. ⌜ Shows (now (image .exit)) (tableOf (addBound v side b (storeOf (now (image .entry)))) (pendingIn (now (image .entry)))) ⌝ }
+{
+    if !repeated {
+        image::push_bound(image, v, side, b);
+    }
+}
+
+// Marks sup if it is a variable and sub is marked.
+fn pass_mark(image: &mut [u32], sub: u32, sup: u32)
+    requires { ⌜ Shown (now image) ⌝ }
+    requires { ⌜ sub < length (entriesOf (now image)) ⌝ }
+    requires { ⌜ sup < length (entriesOf (now image)) ⌝ }
+    ensures { λ _. ⌜ Shows (now (image .exit)) (tableOf (passMark sub sup (storeOf (now (image .entry)))) (pendingIn (now (image .entry)))) ⌝ }
+{
+    if image::entry_word(image, sup, KIND) != VARIABLE {
+        return;
+    }
+    if image::entry_word(image, sub, FLAGS) % 2 == 1 {
+        image::put_mark(image, sup);
+    }
+}
+
+// Puts the pair of a bound x, of that side, and b.
+fn put_bound_pair(image: &mut [u32], side: u32, x: u32, b: u32)
+    requires { ⌜ Shown (now image) ⌝ }
+    requires { ⌜ length (pendingIn (now image)) < storeOf (now image) .capacities .pending ⌝ }
+    ensures { λ _. ⌜ Shows (now (image .exit)) (pendingTo (now (image .entry)) (pendingIn (now (image .entry)) ++ (boundPair side b x ∷ []))) ⌝ }
+{
+    if side == LOWER {
+        image::push_pending(image, x, b);
+    } else {
+        image::push_pending(image, b, x);
+    }
+}
+
+// Puts the pairs of v's bounds on a side and b on pending, last first.
+fn put_bound_pairs(image: &mut [u32], v: u32, side: u32, b: u32)
+    requires { ⌜ Shown (now image) ⌝ }
+    requires { ⌜ length (pendingIn (now image)) + length (boundsIn (boundsAll (now image)) v side) ≤ storeOf (now image) .capacities .pending ⌝ }
+    ensures { λ _. ⌜ Shows (now (image .exit)) (pendingTo (now (image .entry)) (pendingIn (now (image .entry)) ++ reverse (map (boundPair side b) (boundsIn (boundsAll (now (image .entry))) v side)))) ⌝ }
+{
+    let mut i = image::bounds_count(image);
+    while 0 < i {
+        i -= 1;
+        if storage::belongs(image, i, v, side) {
+            let x = image::bound_word(image, i, BOUND);
+            put_bound_pair(image, side, x, b);
+        }
+    }
+}
+
+// Sub, a variable: sup joins its upper bounds.
+fn add_upper_bound(image: &mut [u32], sub: u32, sup: u32) -> Step
+    requires { ⌜ T (wellFormed (now image)) ⌝ }
+    requires { ⌜ 0 < length (pendingIn (now image)) ⌝ }
+    requires { ⌜ sub < length (entriesOf (now image)) ⌝ }
+    requires { ⌜ sup < length (entriesOf (now image)) ⌝ }
+    ensures { λ r. ⌜ r ≡ taken (now (image .entry)) (outcomeFor (storeOf (now (image .entry))) (sub ⊑ sup) Upper) .says ⌝ }
+    ensures { λ _. ⌜ now (image .exit) ≡ taken (now (image .entry)) (outcomeFor (storeOf (now (image .entry))) (sub ⊑ sup) Upper) .words ⌝ }
+{
+    let n = image::bounds_count(image);
+    let repeated = storage::repeats_bound(image, n, sub, UPPER, sup);
+    let more = storage::count_bounds(image, n, sub, LOWER);
+    let room = room_for_bound(image, repeated, more);
+    if let Room::Lacks(r) = room {
+        return Step::Refused(r);
+    }
+    add_bound(image, repeated, sub, UPPER, sup);
+    pass_mark(image, sub, sup);
+    advance(image, sub, sup);
+    put_bound_pairs(image, sub, LOWER, sup);
+    Step::Went
+}
+
+// Sup alone a variable: sub joins its lower bounds.
+fn add_lower_bound(image: &mut [u32], sub: u32, sup: u32) -> Step
+    requires { ⌜ T (wellFormed (now image)) ⌝ }
+    requires { ⌜ 0 < length (pendingIn (now image)) ⌝ }
+    requires { ⌜ sub < length (entriesOf (now image)) ⌝ }
+    requires { ⌜ sup < length (entriesOf (now image)) ⌝ }
+    ensures { λ r. ⌜ r ≡ taken (now (image .entry)) (outcomeFor (storeOf (now (image .entry))) (sub ⊑ sup) Lower) .says ⌝ }
+    ensures { λ _. ⌜ now (image .exit) ≡ taken (now (image .entry)) (outcomeFor (storeOf (now (image .entry))) (sub ⊑ sup) Lower) .words ⌝ }
+{
+    let n = image::bounds_count(image);
+    let repeated = storage::repeats_bound(image, n, sup, LOWER, sub);
+    let more = storage::count_bounds(image, n, sup, UPPER);
+    let room = room_for_bound(image, repeated, more);
+    if let Room::Lacks(r) = room {
+        return Step::Refused(r);
+    }
+    add_bound(image, repeated, sup, LOWER, sub);
+    advance(image, sub, sup);
+    put_bound_pairs(image, sup, UPPER, sub);
+    Step::Went
+}
+
+// Applies what the pair comes to.
+fn apply(image: &mut [u32], sub: u32, sup: u32, next: Next) -> Step
+    requires { ⌜ T (wellFormed (now image)) ⌝ }
+    requires { ⌜ 0 < length (pendingIn (now image)) ⌝ }
+    requires { ⌜ sub < length (entriesOf (now image)) ⌝ }
+    requires { ⌜ sup < length (entriesOf (now image)) ⌝ }
+    requires { ⌜ Applicable (storeOf (now image)) next ⌝ }
+    ensures { λ r. ⌜ r ≡ taken (now (image .entry)) (outcomeFor (storeOf (now (image .entry))) (sub ⊑ sup) next) .says ⌝ }
+    ensures { λ _. ⌜ now (image .exit) ≡ taken (now (image .entry)) (outcomeFor (storeOf (now (image .entry))) (sub ⊑ sup) next) .words ⌝ }
+{
+    match next {
+        Next::Mismatch => fail(image, sub, sup, Failure::Mismatch { sub, sup }),
+        Next::Missing(name) => fail(
+            image,
+            sub,
+            sup,
+            Failure::MissingField { sub, sup, name },
+        ),
+        Next::Follow(pairs) => follow(image, sub, sup, pairs),
+        Next::Isolate { chosen, other } => isolate(image, sub, sup, chosen, other),
+        Next::Functor { field, param, body } => functor(image, sub, sup, field, param, body),
+        Next::Upper => add_upper_bound(image, sub, sup),
+        Next::Lower => add_lower_bound(image, sub, sup),
+    }
+}
+
+// Takes one step of a question.
+pub fn step(image: &mut [u32]) -> Step
+    requires { ⌜ T (wellFormed (now image)) ⌝ }
+    requires { ⌜ 0 < length (pendingIn (now image)) ⌝ }
+    ensures { λ r. ⌜ r ≡ taken (now (image .entry)) (rule (storeOf (now (image .entry))) (lastPair (now (image .entry)))) .says ⌝ }
+    ensures { λ _. ⌜ now (image .exit) ≡ taken (now (image .entry)) (rule (storeOf (now (image .entry))) (lastPair (now (image .entry)))) .words ⌝ }
+{
+    let last = image::pending_count(image) - 1;
+    let sub = image::pending_word(image, last, 0);
+    let sup = image::pending_word(image, last, 1);
+    if sub == sup {
+        image::pop_pending(image);
+        return Step::Went;
+    }
+    if image::visited_has(image, sub, sup) {
+        image::pop_pending(image);
+        return Step::Went;
+    }
+    let next = constrain::constrain(image, sub, sup);
+    apply(image, sub, sup, next)
+}
