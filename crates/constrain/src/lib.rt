@@ -166,7 +166,8 @@ fn asks_dynamic(image: &[u32], a: Attrset, j: u32) -> Ask
     requires { ⌜ j < length (fieldsIn (now image)) ⌝ }
     ensures { λ r. ⌜ r ≡ askDynamic (a .dynamic) (a .is_open) (fieldAt (fieldsIn (now (image .entry))) j) ⌝ }
 {
-    if let Dynamic::Present(n) = a.dynamic {
+    let dynamic = a.dynamic;
+    if let Dynamic::Present(n) = dynamic {
         return Ask::Under(n);
     }
     if a.is_open {
@@ -229,7 +230,10 @@ fn gather(image: &[u32], a: Attrset, b: Attrset) -> Next
         }
         j += 1;
     }
-    Next::Follow(Pairs::Fields(a, b, n + both_dynamic(a.dynamic, b.dynamic)))
+    let sub_dynamic = a.dynamic;
+    let sup_dynamic = b.dynamic;
+    let count = n + both_dynamic(sub_dynamic, sup_dynamic);
+    Next::Follow(Pairs::Fields(a, b, count))
 }
 
 // Two attrsets.

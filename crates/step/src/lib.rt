@@ -178,7 +178,9 @@ fn put_field_pairs(image: &mut [u32], a: Attrset, b: Attrset)
     requires { ⌜ length (pendingIn (now image)) + length (fieldPairs (fieldsIn (now image)) a b) ≤ storeOf (now image) .capacities .pending ⌝ }
     ensures { λ _. ⌜ Shows (now (image .exit)) (pendingTo (now (image .entry)) (pendingIn (now (image .entry)) ++ reverse (fieldPairs (fieldsIn (now (image .entry))) a b))) ⌝ }
 {
-    put_dynamic_pair(image, a.dynamic, b.dynamic);
+    let sub_dynamic = a.dynamic;
+    let sup_dynamic = b.dynamic;
+    put_dynamic_pair(image, sub_dynamic, sup_dynamic);
     let mut j = b.first + b.count;
     while b.first < j {
         j -= 1;
