@@ -23,6 +23,7 @@ use Rattle.model.specs.declared.Entry.the-variants as E
 use Rattle.model.proofs.Entry.{the-type}
 use Rattle.laws.specs.Good.{Good}
 use Rattle.image.specs.Records.{fieldAt}
+use Rattle.disjoint.specs.declared.Found.{Found}
 use Rattle.disjoint.specs.declared.Found.the-variants.{At, Nothing}
 use Rattle.disjoint.specs.Fields.{Inside, fieldsHeld, numberNamed}
 use Rattle.disjoint.proofs.Fields.{rest, next, none-left, whole}
@@ -49,6 +50,10 @@ module _ (d : Dynamic) (o : Bool) (f : Field) where
 
   pub ask-optional : d ≡ Absent → o ≡ false → (f .optional ≡ 0 → ⊥) → A.Nothing ≡ askDynamic d o f
   ask-optional q p z = rw (q, p, ne-eqb _ _ z)
+
+-- the search by the name that was read
+pub named-by : (fs : List Field) (a : Attrset) {name n : ℕ} {r o : Found} → n ≡ name → r ≡ numberNamed fs (a .first) (a .count) n → r ≡ o → numberNamed fs (a .first) (a .count) name ≡ o
+named-by fs a p q e = sym (rw p at q) ∙ e
 
 -- any field
 module _ (fs : List Field) (a : Attrset) (h : Inside fs a) (f : Field) where

@@ -1,7 +1,9 @@
 -- By what the search for the name finds.
+use native.Mathlib.Omega.{arith}
 use mathlib.Core.Path.{sym, ap, _∙_}
 use Rattle.disjoint.proofs.Finding.{named-there}
-use Rattle.constrain.proofs.Gathering.{ask-found, ask-nothing}
+use Rattle.constrain.specs.declared.Ask.the-variants.{Under}
+use Rattle.constrain.proofs.Gathering.{named-by, ask-found, ask-nothing}
 use borrow.Author.Needs.{needs}
 use Rattle.constrain.proofs.asks.Statement.{statement}
 use Rattle.constrain.proofs.asks.Tie as tie
@@ -21,7 +23,9 @@ enum-known-found : tie.Need-enum-known-found
 enum-known-found c = search needs
 
 field-word-requires-2 : tie.Need-field-word-requires-2
-field-word-requires-2 c κs = ?
+field-word-requires-2 c κs =
+    let p = c .before .before .before .before .before .before .pre in
+    (p .0, (named-there _ _ _ _ (p .1 .0) (sym (c .before .before .before .field-named .ensures) ∙ c .before .found .given .1), omega arith))
 
 enum-told : tie.Need-enum-told
 enum-told c = search needs
@@ -30,10 +34,18 @@ asks-dynamic-requires : tie.Need-asks-dynamic-requires
 asks-dynamic-requires c κs = search needs
 
 returns : tie.Need-returns
-returns c = ?
+returns c =
+    let s = c .before .before .before .before .before .before .before in
+    ap Under (c .field-word2 .ensures)
+    ∙ ask-found _ (s .args .a) (s .pre .1 .0) _
+    (named-by _ (s .args .a) (c .before .before .before .before .before .field-word .ensures) (c .before .before .before .before .field-named .ensures) (c .before .before .found .given .1))
 
 returns-2 : tie.Need-returns-2
-returns-2 c = ?
+returns-2 c =
+    let s = c .before .before .before .before .before .before in
+    c .asks-dynamic .ensures
+    ∙ ask-nothing _ (s .args .a) (s .pre .1 .0) _
+    (named-by _ (s .args .a) (c .before .before .before .before .field-word .ensures) (c .before .before .before .field-named .ensures) (c .before .enum-told .given .1))
 
 pub asks-spec : {M : Type 1} → statement M
 asks-spec =

@@ -1,13 +1,13 @@
 -- The loop's invariant is `Going`: nothing is missing before field j, and n pairs were seen.
-use Prim.Native.Nat.{_≤_, _+_, _-_}
+use Prim.Native.Nat.{ℕ, _+_, _-_}
 use native.Mathlib.Omega.{arith}
 use borrow.Author.Needs.{needs}
-use mathlib.Core.Path.{_≡_, sym, ap, _∙_}
+use mathlib.Core.Path.{sym, ap, _∙_}
 use mathlib.Core.Logic.{⊎-elim}
 use denote.Ref.{now}
-use lib.ListN.{length}
 use Rattle.image.specs.Shown.{fieldsIn}
 use Rattle.disjoint.proofs.Fields.{fields-few}
+use Rattle.constrain.specs.declared.Next.the-variants.{Missing}
 use Rattle.constrain.proofs.Gathering.{Going, going-start, going-under, going-nothing, going-missing, going-end}
 use Rattle.constrain.proofs.gather.Statement.{statement}
 use Rattle.constrain.proofs.gather.Tie as tie
@@ -38,7 +38,10 @@ enum-told : tie.Need-enum-told Inv-loop μ-loop
 enum-told c = search needs
 
 add-n : tie.Need-add-n Inv-loop μ-loop
-add-n c = ?
+add-n c =
+    let s = c .before .before .before .before .before .before .before in
+    let g = c .before .before .before .before .loop .inv in
+    omega (arith, g .few, g .inside, g .there, fields-few (now (s .args .image)) (s .pre .0))
 
 enum-told-2 : tie.Need-enum-told-2 Inv-loop μ-loop
 enum-told-2 c = search needs
@@ -47,13 +50,21 @@ enum-told-3 : tie.Need-enum-told-3 Inv-loop μ-loop
 enum-told-3 c = search needs
 
 field-word-requires : tie.Need-field-word-requires Inv-loop μ-loop
-field-word-requires c κs = ?
+field-word-requires c κs =
+    let s = c .before .before .before .before .before .before .before in
+    (s .pre .0, (omega (arith, c .before .before .before .before .loop .inv .there), omega arith))
 
 returns : tie.Need-returns Inv-loop μ-loop
-returns c = ?
+returns c =
+    let l = c .before .before .before .before .before .loop in
+    ap Missing (c .field-word .ensures)
+    ∙ going-missing (l .inv) (c .before .before .before .before .loop-test .taken) (sym (c .before .before .before .asks .ensures) ∙ c .before .enum-told3 .given .1)
 
 add-j : tie.Need-add-j Inv-loop μ-loop
-add-j c = ?
+add-j c =
+    let s = c .before .before .before .before .before .before in
+    let g = c .before .before .before .loop .inv in
+    omega (arith, g .there, fields-few (now (s .args .image)) (s .pre .0))
 
 loop-less : tie.Need-loop-less Inv-loop μ-loop
 loop-less c = omega arith
@@ -72,10 +83,13 @@ both-dynamic-requires : tie.Need-both-dynamic-requires Inv-loop μ-loop
 both-dynamic-requires c κs = search needs
 
 add-count : tie.Need-add-count Inv-loop μ-loop
-add-count c = ?
+add-count c =
+    let s = c .before .before .before .before .before in
+    let g = c .before .before .loop .inv in
+    omega (arith, g .few, g .inside, g .there, c .both-dynamic .ensures .1, fields-few (now (s .args .image)) (s .pre .0))
 
 returns-2 : tie.Need-returns-2 Inv-loop μ-loop
-returns-2 c = ?
+returns-2 c = let l = c .before .before .loop in going-end (l .inv) (c .before .loop-test .left) (ap (λ (k : ℕ). l .n + k) (c .both-dynamic .ensures .0))
 
 pub gather-spec : {M : Type 1} → statement M
 gather-spec =
