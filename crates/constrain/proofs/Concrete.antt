@@ -7,10 +7,10 @@ use mathlib.Core.Bool.{false, cond, _&&_}
 use lib.ListN.{length}
 use borrow.Author.Tests.{eqb-false}
 use Rattle.model.specs.Format.{variable, attrset, neg, inter, union}
-use Rattle.model.specs.Table.{Entry, Field, Store, Pair, _⊑_, entryAt, is, isAt}
+use Rattle.model.specs.Table.{Entry, Field, Store, _⊑_, entryAt, is, isAt}
 use Rattle.model.specs.Shapes.{functorOf}
 use Rattle.model.specs.Formed.{kindKnown, oneComponent, twoComponents}
-use Rattle.model.specs.Rules.{Effect, mismatch, attrsets, functorRule, armOf, byArm, concrete}
+use Rattle.model.specs.Rules.{mismatch, attrsets, functorRule, armOf, byArm, concrete}
 use Rattle.laws.specs.Good.{entryGood, Good}
 use Rattle.laws.proofs.Tests.{nth, le-of}
 use Rattle.laws.proofs.Components.{x-of, y-of}

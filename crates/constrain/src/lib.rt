@@ -284,7 +284,10 @@ fn isolate(image: &[u32], c: u32, d: u32, sup: u32) -> Next
     if disjoint::disjoint_from_sup(image, sup, d) {
         return Next::Mismatch;
     }
-    Next::Isolate { chosen: c, other: d }
+    Next::Isolate {
+        chosen: c,
+        other: d,
+    }
 }
 
 // Inter(a, b) on the left.

@@ -1,5 +1,4 @@
 use mathlib.Core.Path.{sym, _∙_}
-use mathlib.Core.Bool.{not}
 use Rattle.model.specs.Rules.{chosen}
 use borrow.Author.Needs.{needs}
 use Rattle.constrain.proofs.is_chosen.Statement.{statement}
