@@ -473,7 +473,7 @@ fn apply(image: &mut [u32], sub: u32, sup: u32, next: Next) -> Step
 }
 
 // Takes one step of a question.
-pub fn step(image: &mut [u32]) -> Step
+pub fn take_step(image: &mut [u32]) -> Step
     requires { ⌜ T (wellFormed (now image)) ⌝ }
     requires { ⌜ 0 < length (pendingIn (now image)) ⌝ }
     ensures { λ r. ⌜ r ≡ taken (now (image .entry)) (rule (storeOf (now (image .entry))) (lastPair (now (image .entry)))) .says ⌝ }
