@@ -1,6 +1,6 @@
 -- The field asks for a pair, which is put, or for none.
 use native.Mathlib.Omega.{arith}
-use mathlib.Core.Path.{_≡_, sym, ap, _∙_}
+use mathlib.Core.Path.{sym, _∙_}
 use Rattle.image.proofs.Laying.{shown-laid}
 use Rattle.step.proofs.FieldPairs.{pending-none, pending-one, pending-room, field-under, field-asked, field-free}
 use borrow.Author.Needs.{needs}
