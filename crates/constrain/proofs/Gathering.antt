@@ -197,7 +197,7 @@ attrsets-told s p d e =
     let b = attrsetOf e in
     let m = firstMissing a (fieldsHeld (s .fields) a) (fieldsHeld (s .fields) b) in
     let q : gather d (fieldsOf (s .fields) d) (dynamics d e) (fieldsOf (s .fields) e) ≡ told m (fieldPairs (s .fields) a b) =
-        gather-told d (fieldsOf (s .fields) d) (dynamics d e) (fieldsOf (s .fields) e) ∙ rw (dynamics-told d e) in
+    gather-told d (fieldsOf (s .fields) d) (dynamics d e) (fieldsOf (s .fields) e) ∙ rw (dynamics-told d e) in
     effect-told s p a b m ∙ sym (ap (gatheredEffect s) q)
 
 applicable : (s : Store) (a b : Attrset) (m : Option ℕ) → Inside (s .fields) a → Inside (s .fields) b → Applicable s (gatheredBy (s .fields) a b m)

@@ -25,11 +25,12 @@ field-word-requires c κs =
 
 push-pending-requires : tie.Need-push-pending-requires
 push-pending-requires c κs =
-    let s = c .before .before .before .before .before .before .before .before .before in
-    (s .pre .0,
-    pending-room _
-    (field-under _ (s .args .a) (s .args .j) (sym (c .before .before .before .before .before .before .asks .ensures) ∙ c .before .before .before .before .ask .given .1))
-    (s .pre .1 .1 .1))
+    let s = c .before .before .before .before .before .before .before .before .before in (
+      s .pre .0,
+      pending-room _
+          (field-under _ (s .args .a) (s .args .j) (sym (c .before .before .before .before .before .before .asks .ensures) ∙ c .before .before .before .before .ask .given .1))
+          (s .pre .1 .1 .1),
+    )
 
 same-length : tie.Need-same-length
 same-length c = search needs
