@@ -135,6 +135,7 @@ fn first_fit(sub: u32, sup: u32, p: u32, q: u32) -> Arm
 fn decide(sub: u32, sup: u32, p: u32, q: u32) -> Arm
     requires { ⌜ (1 ≤ sub) × (sub ≤ 8) × (1 ≤ sup) × (sup ≤ 8) ⌝ }
     ensures { λ r. ⌜ armIn r ≡ armOf sub sup p q ⌝ }
+    ensures { λ r. ⌜ Fits r sub sup p q ⌝ }
 {
     first_fit(sub, sup, p, q)
 }
@@ -283,7 +284,10 @@ fn isolate(image: &[u32], c: u32, d: u32, sup: u32) -> Next
     if disjoint::disjoint_from_sup(image, sup, d) {
         return Next::Mismatch;
     }
-    Next::Isolate { chosen: c, other: d }
+    Next::Isolate {
+        chosen: c,
+        other: d,
+    }
 }
 
 // Inter(a, b) on the left.

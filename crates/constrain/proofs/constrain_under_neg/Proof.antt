@@ -1,0 +1,22 @@
+use mathlib.Core.Path.{sym, _∙_}
+use Rattle.model.specs.Rules.{underNegation}
+use borrow.Author.Needs.{needs}
+use Rattle.constrain.proofs.constrain_under_neg.Statement.{statement}
+use Rattle.constrain.proofs.constrain_under_neg.Tie as tie
+use Rattle.constrain.proofs.constrain_under_neg.Reads as reads
+use Rattle.constrain.proofs.constrain_under_neg.Lts as lts
+use Rattle.disjoint.proofs.disjoint.Reads as disjoint-reads
+
+disjoint-requires : tie.Need-disjoint-requires
+disjoint-requires c κs = search needs
+
+returns : tie.Need-returns
+unfolding underNegation
+returns c sup = record { means = rw (sym (c .before .disjoint .ensures) ∙ c .if1 .taken); applies = tt }
+
+returns-2 : tie.Need-returns-2
+unfolding underNegation
+returns-2 c sup = record { means = rw (sym (c .before .disjoint .ensures) ∙ c .if1 .left); applies = tt }
+
+pub constrain-under-neg-spec : {M : Type 1} → statement M
+constrain-under-neg-spec = tie.close (tie.spec disjoint-requires returns returns-2)

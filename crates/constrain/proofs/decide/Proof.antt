@@ -1,0 +1,16 @@
+use Rattle.constrain.proofs.Leaf.{leaf}
+use borrow.Author.Needs.{needs}
+use Rattle.constrain.proofs.decide.Statement.{statement}
+use Rattle.constrain.proofs.decide.Tie as tie
+use Rattle.constrain.proofs.decide.Reads as reads
+use Rattle.constrain.proofs.decide.Lts as lts
+use Rattle.constrain.proofs.first_fit.Reads as first-fit-reads
+
+first-fit-requires : tie.Need-first-fit-requires
+first-fit-requires c κs = search needs
+
+returns : tie.Need-returns
+returns c = (leaf (c .first-fit .result) _ _ _ _ (c .first-fit .ensures), c .first-fit .ensures)
+
+pub decide-spec : {M : Type 1} → statement M
+decide-spec = tie.close (tie.spec first-fit-requires returns)

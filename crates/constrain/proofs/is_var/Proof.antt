@@ -1,0 +1,17 @@
+use Rattle.model.specs.Table.{is, isAt}
+use borrow.Author.Needs.{needs}
+use Rattle.constrain.proofs.is_var.Statement.{statement}
+use Rattle.constrain.proofs.is_var.Tie as tie
+use Rattle.constrain.proofs.is_var.Reads as reads
+use Rattle.constrain.proofs.is_var.Lts as lts
+use Rattle.image.proofs.entry_word.Reads as entry-word-reads
+
+entry-word-requires : tie.Need-entry-word-requires
+entry-word-requires c κs = search needs
+
+returns : tie.Need-returns
+unfolding is isAt
+returns c = rw (c .entry-word .ensures)
+
+pub is-var-spec : {M : Type 1} → statement M
+is-var-spec = tie.close (tie.spec entry-word-requires returns)
