@@ -226,18 +226,25 @@ fn is_variable(image: &[u32], v: u32) -> bool {
 }
 
 fn bound_right(image: &[u32], i: u32) -> bool {
-    is_variable(image, bound_word(image, i, 0)) & (bound_word(image, i, 1) <= 1) & (bound_word(image, i, 2) < image[11])
+    if !is_variable(image, bound_word(image, i, 0)) {
+        return false;
+    }
+    if 1 < bound_word(image, i, 1) {
+        return false;
+    }
+    bound_word(image, i, 2) < image[11]
 }
 
 fn bounds_right(image: &[u32]) -> bool {
     let n = image[17];
-    let mut ok = true;
     let mut i = 0;
     while i < n {
-        ok = ok & bound_right(image, i);
+        if !bound_right(image, i) {
+            return false;
+        }
         i += 1;
     }
-    ok
+    true
 }
 
 fn pairs_right(image: &[u32], k: usize) -> bool {
