@@ -34,7 +34,7 @@ pub fn on_limits() {
     for k in 0..6 {
         let mut capacities = MOST;
         capacities[k] += 1;
-        agreed(&laid(capacities, 0), Some(false), &format!("region {}, a capacity too large", k + 1));
+        agreed(&laid(capacities, 1), Some(false), &format!("region {}, a capacity too large", k + 1));
     }
     agreed(&laid([0; 6], 0), Some(false), "no names, and a functor");
     agreed(&laid([0; 6], 1), Some(true), "capacities 0");
