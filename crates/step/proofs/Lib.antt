@@ -1,1 +1,5 @@
-
+pub mod Visits
+pub mod Settling
+pub mod Targets
+pub mod Isolating
+pub mod Functors
