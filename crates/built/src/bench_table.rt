@@ -16,7 +16,7 @@ pub fn print_table() {
 }
 
 // The words of an image with the bench's capacities, before it is started.
-fn room() -> [u32; 283]
+pub fn room() -> [u32; 283]
     ensures { λ r. ⌜ 283 ≡ length r ⌝ }
 {
     [7u32; 283]
@@ -35,7 +35,7 @@ fn capacities() -> image::Capacities {
 }
 
 // The table, from nothing.
-fn make_table(words: &mut [u32]) {
+pub fn make_table(words: &mut [u32]) {
     sheafwinch::start(words, 3, 1, capacities());
     make_primitives(words);
     make_others(words);

@@ -1,17 +1,25 @@
-// What the calls build, printed: the words of a table, what a bound put twice adds, what a full region answers, and what words that
-// are no image answer.
+// What the calls build, printed: the words of a table, what a bound put twice adds, what full regions and too deep an entry answer,
+// and what words that are no image answer.
+mod answers;
 mod bench_table;
-mod entry_room;
+mod changed_words;
+mod copies;
+mod depth;
+mod full_regions;
 mod random_words;
 mod repeated_bounds;
+mod script;
 
 use libc::STDOUT_FILENO;
+ghost use mathlib.Core.Path.{_≡_};
 
 fn main() {
     bench_table::print_table();
     repeated_bounds::print_counts();
-    entry_room::print_refusals();
-    random_words::print_count();
+    full_regions::print_lines();
+    depth::print_lines();
+    random_words::print_counts();
+    changed_words::print_refused();
 }
 
 // Writes all of s to standard output.
@@ -22,4 +30,16 @@ fn print(s: &[u8]) {
 // A number in decimal.
 fn print_number(n: u32) {
     io::print_decimal(STDOUT_FILENO, n as u64);
+}
+
+// A place or a size in decimal.
+fn print_size(n: usize) {
+    io::print_decimal(STDOUT_FILENO, n as u64);
+}
+
+// A number as a size.
+fn wide(n: u32) -> usize
+    ensures { λ r. ⌜ r ≡ n ⌝ }
+{
+    n as usize
 }

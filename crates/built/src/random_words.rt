@@ -10,11 +10,17 @@ ghost use lib.ListN.{length};
 // How many words there are at most.
 const MOST_WORDS: usize = 200;
 
-// How many lengths are refused.
-pub fn print_count() {
-    let words = random();
-    print(b"Lengths of words at random that are refused 1: ");
-    print_number(count_refused(&words));
+// What word 0 of an image is.
+const FORMAT: u32 = 1;
+
+// How many lengths are refused, of words at random and of these with the format word right.
+pub fn print_counts() {
+    print(b"Lengths from 0 to 200 of words at random that are refused 1: ");
+    let mut words = random();
+    print_number(count_refused(&words, MOST_WORDS));
+    print(b", and with word 0 right: ");
+    words[0] = FORMAT;
+    print_number(count_refused(&words, MOST_WORDS));
     print(b"\n");
 }
 
@@ -34,7 +40,7 @@ fn random() -> [u32; 200]
 }
 
 // The number after x at random.
-fn next(x: u32) -> u32 {
+pub fn next(x: u32) -> u32 {
     (wide(x) * 16807 % 2147483647) as u32
 }
 
@@ -45,11 +51,13 @@ fn wide(x: u32) -> u64
     x as u64
 }
 
-// How many of the parts from the first word on are refused.
-fn count_refused(words: &[u32]) -> u32 {
+// How many of the parts of 0 to so many words from the first on are refused.
+pub fn count_refused(words: &[u32], most: usize) -> u32
+    requires { ⌜ most ≤ 1000 ⌝ }
+{
     let mut refused: u32 = 0;
     let mut n: usize = 0;
-    while n <= MOST_WORDS {
+    while n <= most {
         refused += refused_at(words, n);
         n += 1;
     }

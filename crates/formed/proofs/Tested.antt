@@ -15,6 +15,20 @@ unfolding allOf
 joined-is a [] = sym (and-true a)
 joined-is a (b ∷ bs) = joined-is (a && b) bs ∙ and-assoc a b (allOf bs)
 
+-- four tests, the first two made as one: what decides them
+pub two-fail : (a b : Bool) (bs : List Bool) → (a && b) ≡ false → allOf (a ∷ b ∷ bs) ≡ false
+unfolding allOf
+two-fail true b bs h = rw h refl
+two-fail false b bs h = refl
+
+pub third-fails : (a b c : Bool) (bs : List Bool) → c ≡ false → allOf (a ∷ b ∷ c ∷ bs) ≡ false
+unfolding allOf
+third-fails a b c bs h = rw (h, and-false b) (and-false a)
+
+pub fourth-decides : (a b c d : Bool) → (a && b) ≡ true → c ≡ true → allOf (a ∷ b ∷ c ∷ d ∷ []) ≡ d
+unfolding allOf
+fourth-decides a b c d h k = rw (k, and-true d) (sym (and-assoc a b d) ∙ rw h refl)
+
 -- `!a | b` in code
 pub when-is : (a b : Bool) → (not a || b) ≡ (a ⇒ b)
 when-is true b = refl

@@ -5,7 +5,7 @@ use native.Mathlib.Nat.{zero-add}
 use native.Mathlib.Numerals.{add-one}
 use mathlib.Core.Path.{_≡_, refl, sym, ap, _∙_}
 use mathlib.Core.List.{List, [], _∷_}
-use mathlib.Core.Bool.{Bool, _&&_, and-true, and-assoc}
+use mathlib.Core.Bool.{Bool, false, _&&_, and-true, and-false, and-assoc}
 use lib.ListN.{length, getD, take, drop}
 use lib.Seq.{take-all}
 use lib.Dec.{ltb}
@@ -41,6 +41,13 @@ module _ {A : Type 0} (f : A → Bool) (d : A) where
 
   pub all-end : (l : List A) (i : ℕ) → length l ≤ i → all f (take i l) ≡ all f l
   all-end l i h = ap (λ (m : List A). all f m) (take-all i l h)
+
+  -- a record that fails decides it
+  pub all-fails : (l : List A) (i : ℕ) → i < length l → f (getD l i d) ≡ false → all f l ≡ false
+  unfolding all
+  all-fails [] i lt h = absurd (omega arith)
+  all-fails (x ∷ l) zero lt h = rw h refl
+  all-fails (x ∷ l) (suc i) lt h = rw (all-fails l i (omega arith) h) (and-false (f x))
 
 -- pairs are right where all their words are numbers of entries
 pub pairs-are : (es : List Entry) (n : ℕ) (l : List ℕ) → 2 * n ≤ length l

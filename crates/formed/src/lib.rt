@@ -1,5 +1,6 @@
 // Whether lent words are a well formed image: a function for each condition of document 01, named as the model's test that it
-// decides, and `check`, which is all of them. No test of many records stops early: an image is nearly always well formed.
+// decides, and `check`, which is all of them. An image is nearly always well formed: a test of many words does not stop early, and
+// so vectorises. The bounds do stop: their variables are looked up one by one, and there branches never taken cost least.
 ghost use mathlib.Core.Path.{_≡_};
 ghost use mathlib.Core.Bool.{cond, _&&_};
 ghost use Prim.Native.Nat.{_+_, _*_, _≤_, _<_};
@@ -519,9 +520,13 @@ fn bound_right(image: &[u32], i: u32) -> bool
     requires { ⌜ i < length (boundsAll (now image)) ⌝ }
     ensures { λ r. ⌜ r ≡ boundRight (entriesOf (now (image .entry))) (boundAt (boundsAll (now (image .entry))) i) ⌝ }
 {
-    is_variable(image, image::bound_word(image, i, 0))
-        & (image::bound_word(image, i, 1) <= UPPER)
-        & (image::bound_word(image, i, 2) < image[ENTRIES_COUNT_AT])
+    if !is_variable(image, image::bound_word(image, i, 0)) {
+        return false;
+    }
+    if UPPER < image::bound_word(image, i, 1) {
+        return false;
+    }
+    image::bound_word(image, i, 2) < image[ENTRIES_COUNT_AT]
 }
 
 // Whether every bound record is right.
@@ -530,13 +535,14 @@ fn bounds_right(image: &[u32]) -> bool
     ensures { λ r. ⌜ r ≡ all (boundRight (entriesOf (now (image .entry)))) (boundsAll (now (image .entry))) ⌝ }
 {
     let n = image[BOUNDS_COUNT_AT];
-    let mut ok = true;
     let mut i = 0;
     while i < n {
-        ok = ok & bound_right(image, i);
+        if !bound_right(image, i) {
+            return false;
+        }
         i += 1;
     }
-    ok
+    true
 }
 
 // Whether every number in the pairs of region k, visited, pending or equals, is below the entry count.

@@ -1,10 +1,12 @@
 -- Each call's contract settles its answer and every word of the image, for all inputs: any two outcomes that it allows are equal.
 -- `Post` is the contract itself, what the function ensures of its arguments, its result and the image at exit. Assumes nothing.
 use Prim.Native.Nat.{ℕ}
-use mathlib.Core.Path.{_≡_, sym, _∙_}
+use mathlib.Core.Path.{_≡_, sym, ap, _∙_}
 use mathlib.Core.List.{List}
 use denote.Ref.{RefT}
-use Rattle.model.proofs.OneToOne.{reply-one-to-one, made-one-to-one, entry-read-one-to-one, record-one-to-one, disjointness-one-to-one}
+use Rattle.model.proofs.OneToOne.{reply-one-to-one, made-one-to-one, answer-one-to-one, entry-read-one-to-one, record-one-to-one, disjointness-one-to-one}
+use Rattle.model.specs.declared.Answer.{Answer}
+use Rattle.model.specs.declared.Instalment.{Instalment}
 use Rattle.sheafwinch.proofs.start.Reads as start
 use Rattle.sheafwinch.proofs.make_variable.Reads as make-variable
 use Rattle.sheafwinch.proofs.make_primitive.Reads as make-primitive
@@ -20,6 +22,10 @@ use Rattle.sheafwinch.proofs.put_bound.Reads as put-bound
 use Rattle.sheafwinch.proofs.enter.Reads as enter
 use Rattle.sheafwinch.proofs.exit.Reads as exit
 use Rattle.sheafwinch.proofs.set_level.Reads as set-level
+use Rattle.sheafwinch.proofs.ask.Reads as ask
+use Rattle.sheafwinch.proofs.ask_equal.Reads as ask-equal
+use Rattle.sheafwinch.proofs.work.Reads as work
+use Rattle.sheafwinch.proofs.abandon.Reads as abandon
 use Rattle.sheafwinch.proofs.entry.Reads as entry
 use Rattle.sheafwinch.proofs.record.Reads as record-call
 use Rattle.sheafwinch.proofs.disjoint.Reads as disjoint
@@ -77,6 +83,24 @@ exit-settled κs a x y e f p q = (reply-one-to-one x y (p .0 ∙ sym (q .0)), p 
 
 pub set-level-settled : SettlesAll set-level.Post
 set-level-settled κs a x y e f p q = (reply-one-to-one x y (p .0 ∙ sym (q .0)), p .1 ∙ sym (q .1))
+
+instalment-one : (x y : Instalment) → x .answer ≡ y .answer → x .steps ≡ y .steps → x ≡ y
+instalment-one x y e f =
+    let a : x ≡ record { answer = y .answer; steps = x .steps } = ap (λ (z : Answer). record { answer = z; steps = x .steps }) e in
+    let b : record { answer = y .answer; steps = x .steps } ≡ y = ap (λ (k : ℕ). record { answer = y .answer; steps = k }) f in
+    a ∙ b
+
+pub ask-settled : SettlesAll ask.Post
+ask-settled κs a x y e f p q = (reply-one-to-one x y (p .0 ∙ sym (q .0)), p .1 ∙ sym (q .1))
+
+pub ask-equal-settled : SettlesAll ask-equal.Post
+ask-equal-settled κs a x y e f p q = (reply-one-to-one x y (p .0 ∙ sym (q .0)), p .1 ∙ sym (q .1))
+
+pub work-settled : SettlesAll work.Post
+work-settled κs a x y e f p q = (instalment-one x y (answer-one-to-one (x .answer) (y .answer) (p .0 ∙ sym (q .0))) (p .1 .0 ∙ sym (q .1 .0)), p .1 .1 ∙ sym (q .1 .1))
+
+pub abandon-settled : SettlesAll abandon.Post
+abandon-settled κs a x y e f p q = (reply-one-to-one x y (p .0 ∙ sym (q .0)), p .1 ∙ sym (q .1))
 
 pub entry-settled : Settles entry.Post
 entry-settled κs a x y e f p q = entry-read-one-to-one x y (p ∙ sym q)

@@ -44,6 +44,15 @@ pub good-table : (c : Call) (w : List ℕ) → T (wellFormed w) → {a : Told} {
 unfolding perform onTable
 good-table c w h k = rw (true-of (wellFormed w) h) k
 
+-- the steps that are told
+pub bad-steps : (c : Call) (w : List ℕ) → wellFormed w ≡ false → 0 ≡ perform c w .steps
+unfolding perform onTable replyOf
+bad-steps c w e = rw e
+
+pub good-steps : (c : Call) (w : List ℕ) → T (wellFormed w) → {k : ℕ} → k ≡ replyOf w (turnOf c w (table w)) .steps → k ≡ perform c w .steps
+unfolding perform onTable
+good-steps c w h k = rw (true-of (wellFormed w) h) k
+
 module _ (w : List ℕ) where
   -- 3
   pub busy : (turn : Turn) → isAsked (table w) ≡ true → Replies (toldRefusal Busy) w (replyOf w (whenIdle (table w) turn))

@@ -1,8 +1,10 @@
 // The calls on an image. Each tests the image first, refuses in document 01's order, and leaves every word as found where it refuses;
 // its contract is the model's definition of that call: `perform` in crates/model/specs/Calls.antt.
+use model::Answer;
 use model::Disjointness;
 use model::Dynamic;
 use model::EntryRead;
+use model::Instalment;
 use model::Made;
 use model::Record;
 use model::Refusal;
@@ -13,9 +15,9 @@ ghost use lib.Dec.{T};
 ghost use Rattle.model.specs.Format.{neg};
 ghost use Rattle.model.specs.Image.{table};
 ghost use Rattle.model.specs.Formed.{wellFormed};
-ghost use Rattle.model.specs.Calls.{replyOf, variableTurn, primitiveTurn, oneTurn, twoTurn, negTurn, attrsetTurn, dynamicKnown, markTurn, putBoundTurn, enterTurn, exitTurn, setLevelTurn, readEntryTurn, readRecordTurn, readDisjointTurn, perform, makesVariable, makesPrimitive, makesList, makesLambda, makesAttrset, makesNamed, makesNeg, makesInter, makesUnion, marks, putsBound, enters, exits, setsLevel, readsEntry, readsRecord, readsDisjoint};
+ghost use Rattle.model.specs.Calls.{replyOf, variableTurn, primitiveTurn, oneTurn, twoTurn, negTurn, attrsetTurn, dynamicKnown, markTurn, putBoundTurn, enterTurn, exitTurn, setLevelTurn, readEntryTurn, readRecordTurn, readDisjointTurn, perform, makesVariable, makesPrimitive, makesList, makesLambda, makesAttrset, makesNamed, makesNeg, makesInter, makesUnion, marks, putsBound, enters, exits, setsLevel, asks, asksEqual, works, abandons, readsEntry, readsRecord, readsDisjoint};
 ghost use Rattle.model.specs.Calls.{start as startOf};
-ghost use Rattle.model.specs.Told.{toldMade, toldReply, toldEntryRead, toldRecord, toldDisjointness};
+ghost use Rattle.model.specs.Told.{toldMade, toldReply, toldAnswer, toldEntryRead, toldRecord, toldDisjointness};
 ghost use Rattle.image.specs.Shown.{entriesOf};
 ghost use Rattle.image.specs.Stores.{capacitiesOf};
 
@@ -394,6 +396,54 @@ fn level_in(image: &mut [u32], v: u32, level: u32) -> Reply
     }
     storage::set_level(image, v, level);
     Reply::Done
+}
+
+// Asks whether sub fits under sup; a held question is refused once a question in this table has failed.
+pub fn ask(image: &mut [u32], held: bool, sub: u32, sup: u32) -> Reply
+    ensures { λ r. ⌜ toldReply r ≡ perform (asks held sub sup) (now (image .entry)) .says ⌝ }
+    ensures { λ _. ⌜ now (image .exit) ≡ perform (asks held sub sup) (now (image .entry)) .words ⌝ }
+{
+    if !formed::check(image) {
+        return Reply::Refused(Refusal::BadTable);
+    }
+    questions::ask(image, held, sub, sup)
+}
+
+// Asks whether each of two entries fits under the other.
+pub fn ask_equal(image: &mut [u32], held: bool, left: u32, right: u32) -> Reply
+    ensures { λ r. ⌜ toldReply r ≡ perform (asksEqual held left right) (now (image .entry)) .says ⌝ }
+    ensures { λ _. ⌜ now (image .exit) ≡ perform (asksEqual held left right) (now (image .entry)) .words ⌝ }
+{
+    if !formed::check(image) {
+        return Reply::Refused(Refusal::BadTable);
+    }
+    questions::ask_equal(image, held, left, right)
+}
+
+// Works the question that is asked, at most so many steps; tells the answer, and the steps of this call.
+pub fn work(image: &mut [u32], budget: u32) -> Instalment
+    ensures { λ r. ⌜ toldAnswer (r .answer) ≡ perform (works budget) (now (image .entry)) .says ⌝ }
+    ensures { λ r. ⌜ r .steps ≡ perform (works budget) (now (image .entry)) .steps ⌝ }
+    ensures { λ _. ⌜ now (image .exit) ≡ perform (works budget) (now (image .entry)) .words ⌝ }
+{
+    if !formed::check(image) {
+        return Instalment {
+            answer: Answer::Refused(Refusal::BadTable),
+            steps: 0,
+        };
+    }
+    questions::work(image, budget)
+}
+
+// Gives up the question that is asked.
+pub fn abandon(image: &mut [u32]) -> Reply
+    ensures { λ r. ⌜ toldReply r ≡ perform abandons (now (image .entry)) .says ⌝ }
+    ensures { λ _. ⌜ now (image .exit) ≡ perform abandons (now (image .entry)) .words ⌝ }
+{
+    if !formed::check(image) {
+        return Reply::Refused(Refusal::BadTable);
+    }
+    questions::abandon(image)
 }
 
 // Reads an entry out.

@@ -1,14 +1,14 @@
 -- `built::random_words::count_refused` is safe and ends: no more are refused than were tried, and what is left of the lengths falls. Assumes nothing.
-use Prim.Native.Nat.{_≤_, _-_}
+use Prim.Native.Nat.{_+_, _≤_, _-_}
 use borrow.Author.Needs.{needs}
 use Rattle.built.proofs.random_words.count_refused.Statement.{statement}
 use Rattle.built.proofs.random_words.count_refused.Tie as tie
 
 abbrev Inv-loop : tie.InvT-loop
-Inv-loop words refused₀ n₀ refused n = (n ≤ 201) × (refused ≤ n)
+Inv-loop words most refused₀ n₀ refused n = (n ≤ most + 1) × (refused ≤ n)
 
 abbrev μ-loop : tie.MeasureT-loop
-μ-loop words refused₀ n₀ refused n = 201 - n
+μ-loop words most refused₀ n₀ refused n = (most + 1) - n
 
 loop-holds : tie.Need-loop-holds Inv-loop μ-loop
 loop-holds c = search needs

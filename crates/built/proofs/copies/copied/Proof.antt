@@ -1,26 +1,25 @@
--- `built::entry_room::copied` is safe and ends: no index is past the 55 words, and what is left of them falls. Assumes nothing.
+-- `built::copies::copied` is safe and ends: no index is past the 283 words, and what is left of them falls. Assumes nothing.
 use Prim.Native.Nat.{_≤_, _-_}
+use mathlib.Core.Path.{_≡_}
+use lib.ListN.{length}
 use borrow.Author.Needs.{needs}
-use Rattle.built.proofs.entry_room.copied.Statement.{statement}
-use Rattle.built.proofs.entry_room.copied.Tie as tie
+use Rattle.built.proofs.copies.copied.Statement.{statement}
+use Rattle.built.proofs.copies.copied.Tie as tie
 
 abbrev Inv-loop : tie.InvT-loop
-Inv-loop words copy₀ at₀ copy at = at ≤ 55
+Inv-loop words copy₀ at₀ copy at = (at ≤ 283) × (length copy ≡ 283)
 
 abbrev μ-loop : tie.MeasureT-loop
-μ-loop words copy₀ at₀ copy at = 55 - at
+μ-loop words copy₀ at₀ copy at = 283 - at
 
 loop-holds : tie.Need-loop-holds Inv-loop μ-loop
 loop-holds c = search needs
 
+word-requires : tie.Need-word-requires Inv-loop μ-loop
+word-requires c κs = search needs
+
 mul-copy : tie.Need-mul-copy Inv-loop μ-loop
 mul-copy c = search needs
-
-shared-slice-read-copy : tie.Need-shared-slice-read-copy Inv-loop μ-loop
-shared-slice-read-copy c = search needs
-
-mul-copy-2 : tie.Need-mul-copy-2 Inv-loop μ-loop
-mul-copy-2 c = search needs
 
 array-write-copy : tie.Need-array-write-copy Inv-loop μ-loop
 array-write-copy c = search needs
@@ -44,9 +43,8 @@ copied-spec =
     Inv-loop
     μ-loop
     loop-holds
+    word-requires
     mul-copy
-    shared-slice-read-copy
-    mul-copy-2
     array-write-copy
     add-at
     loop-less

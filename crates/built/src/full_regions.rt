@@ -1,0 +1,98 @@
+// A small script of calls at every capacity from 0 to what it needs: of one region while the others have room, then of several.
+// Visited, pending and equals are not filled: only ask and work put records there, and these are not in code yet.
+use crate::print;
+use crate::print_number;
+use crate::script;
+use crate::wide;
+ghost use mathlib.Core.Path.{_≡_};
+ghost use Prim.Native.Nat.{_≤_};
+ghost use lib.ListN.{length};
+
+// The script's calls, from the first to before the end.
+const FIRST: u32 = 0;
+
+const END: u32 = 14;
+
+// A line for the capacities of entries, fields and bounds: the answers of the script's calls.
+pub fn print_lines() {
+    print(
+        b"Entries, fields, bounds: what each call answers, rN where it is refused N, r5(R) where region R is full\n",
+    );
+    each_entries();
+    each_fields();
+    each_bounds();
+    several();
+}
+
+// Entries, which the script needs 9 of.
+fn each_entries() {
+    let mut n: u32 = 0;
+    while n <= 9 {
+        print_line(n, 3, 3);
+        n += 1;
+    }
+}
+
+// Fields, which it needs 3 of.
+fn each_fields() {
+    print_line(9, 0, 3);
+    print_line(9, 1, 3);
+    print_line(9, 2, 3);
+}
+
+// Bounds, which it needs 3 of.
+fn each_bounds() {
+    print_line(9, 3, 0);
+    print_line(9, 3, 1);
+    print_line(9, 3, 2);
+}
+
+// More than one: an attrset is told of entries first, and of fields where it has an entry.
+fn several() {
+    print_line(4, 1, 0);
+    print_line(5, 1, 0);
+    print_line(8, 2, 1);
+}
+
+// The capacities, and the answers on an image with these.
+fn print_line(entries: u32, fields: u32, bounds: u32)
+    requires { ⌜ entries ≤ 9 ⌝ }
+    requires { ⌜ fields ≤ 3 ⌝ }
+    requires { ⌜ bounds ≤ 3 ⌝ }
+{
+    print_number(entries);
+    print(b" ");
+    print_number(fields);
+    print(b" ");
+    print_number(bounds);
+    print(b":");
+    let size = 39 + 7 * wide(entries) + 3 * wide(fields) + 3 * wide(bounds);
+    let mut words = room();
+    fill(&mut words[0..size], entries, fields, bounds);
+    print(b"\n");
+}
+
+// Words for the largest image.
+fn room() -> [u32; 120]
+    ensures { λ r. ⌜ 120 ≡ length r ⌝ }
+{
+    [7u32; 120]
+}
+
+// So many records of the first three regions, and two of each other.
+fn capacities(entries: u32, fields: u32, bounds: u32) -> image::Capacities {
+    image::Capacities {
+        entries: entries,
+        fields: fields,
+        bounds: bounds,
+        visited: 2,
+        pending: 2,
+        equals: 2,
+    }
+}
+
+// Starts the image, and runs the script.
+fn fill(words: &mut [u32], entries: u32, fields: u32, bounds: u32) {
+    sheafwinch::start(words, 3, 1, capacities(entries, fields, bounds));
+    script::run(words, FIRST, END);
+}

@@ -1,0 +1,84 @@
+//! Times the proved check against the same test in Rust, from one driver and in one run. First they must agree (agree.rs); a
+//! disagreement ends the run with status 1.
+mod agree;
+mod images;
+#[path = "ordinary.rs"]
+mod ordinary_test;
+#[path = "twin.rs"]
+mod twin_test;
+
+use images::{filled, laid, Random, MOST};
+use std::hint::black_box;
+use std::time::Instant;
+
+const SEED: u64 = 20_261_115;
+const DAMAGED: usize = 600;
+const ROUNDS: usize = 1001;
+const GOAL: f64 = 0.6;
+
+unsafe extern "C" {
+    fn sheafwinch_check(image: *const u32, words: usize) -> bool;
+}
+
+/// The proved check: it reads the lent words, and nothing else.
+#[inline(never)]
+fn proved(image: &[u32]) -> bool {
+    unsafe { sheafwinch_check(image.as_ptr(), image.len()) }
+}
+
+#[inline(never)]
+fn ordinary(image: &[u32]) -> bool {
+    ordinary_test::well_formed(image)
+}
+
+#[inline(never)]
+fn twin(image: &[u32]) -> bool {
+    twin_test::well_formed(image)
+}
+
+/// Microseconds of one call. One alone is too short for other work to come between often, so a median leaves that out.
+fn micros(test: fn(&[u32]) -> bool, image: &[u32]) -> f64 {
+    let start = Instant::now();
+    black_box(black_box(test)(black_box(image)));
+    start.elapsed().as_secs_f64() * 1e6
+}
+
+fn median(times: &mut [f64]) -> f64 {
+    times.sort_by(f64::total_cmp);
+    times[times.len() / 2]
+}
+
+/// Times the three in turn, each round beginning with another; prints medians and ratios.
+fn time(name: &str, image: &[u32]) {
+    let tests: [fn(&[u32]) -> bool; 3] = [proved, ordinary, twin];
+    let mut times = [const { Vec::new() }; 3];
+    for round in 0..ROUNDS {
+        for k in 0..3 {
+            let k = (round + k) % 3;
+            times[k].push(micros(tests[k], image));
+        }
+    }
+    let [p, o, t] = times.each_mut().map(|times| median(times));
+    println!("{name}");
+    println!("  proved check      {p:8.1} us");
+    println!("  Rust, ordinary    {o:8.1} us   ratio {:.2} (goal: at most {GOAL})", p / o);
+    println!("  Rust, same shapes {t:8.1} us   ratio {:.2}", p / t);
+}
+
+fn main() {
+    let mut random = Random(SEED);
+    agree::on_limits();
+    let (all, kept) = agree::on_edges(&mut random);
+    println!("small images: agreed on {all}, each with one word at an edge, {kept} of them well formed (seed {SEED})");
+    let mut images = [("counts 0", laid(MOST, 4096)), ("every region full", filled(MOST, MOST, 4096, &mut random))];
+    for (name, image) in &mut images {
+        agree::on_faults(name, image);
+        let kept = (0..DAMAGED).filter(|_| agree::on_damage(name, image, &mut random)).count();
+        agree::agreed(image, Some(true), name);
+        println!("{name}: agreed on the image, its faults and {DAMAGED} damaged ones, {kept} of them well formed");
+    }
+    println!("{} words; medians of {ROUNDS} calls, in turn", images[0].1.len());
+    for (name, image) in &images {
+        time(name, image);
+    }
+}
