@@ -18,3 +18,4 @@ pub mod Turns
 pub mod Calls
 pub mod Demands
 pub mod Questions
+pub mod Refused
