@@ -13,7 +13,7 @@ use Rattle.instalments.proofs.Room.{Refusal as Refused-at}
 use Rattle.instalments.proofs.Counted.{work-refusal}
 use Rattle.model.specs.Lists.{isZero, all}
 use Rattle.model.specs.Format.{wordEnd, variable, list, lambda, named, inter, union, number, upper}
-use Rattle.model.specs.Table.{Pair, _⊑_, Capacities, Store, Table, tableOf, isAsked, isBroken, withLevel, withEntries, withFields, withBounds, withEquals, isAt}
+use Rattle.model.specs.Table.{Pair, _⊑_, Capacities, Store, Table, tableOf, stateOf, isAsked, isBroken, withLevel, withEntries, withFields, withBounds, withEquals, isAt}
 use Rattle.model.specs.Image.{table}
 use Rattle.model.specs.Making.{Making, tooDeep, newEntry, makeNeg, markEntry, addBound, boundsIn, repeats}
 use Rattle.model.specs.Formed.{isEntry, wellFormed}
@@ -29,8 +29,11 @@ use Rattle.model.specs.declared.Refusal.the-variants as R
 use Rattle.model.specs.declared.Dynamic.{Dynamic}
 use Rattle.model.specs.declared.Answer.the-variants as A
 use Rattle.laws.specs.Refusals.{isWork, forRoom, KeepsEarlier}
-use Rattle.laws.proofs.Tests.{true-of, of-true}
+use Rattle.laws.proofs.Tests.{true-of, of-true, no-test}
 use Rattle.laws.proofs.Stores.{by-test}
+use Rattle.laws.specs.Turns.{TurnSound}
+use Rattle.laws.proofs.Formed.{sound-table}
+use Rattle.laws.proofs.Turns.{work-turn-sound}
 use Rattle.laws.proofs.Calls.{read-back, call-formed}
 use Rattle.laws.proofs.Demands.{refusal-keeps}
 
@@ -170,3 +173,157 @@ plainly abandons e ws t = when-asked t _ (tt, refl, refl)
 plainly (readsEntry n) e ws t = when-numbered t _ _ tt
 plainly (readsRecord k i) e ws t = when-numbered t _ _ tt
 plainly (readsDisjoint a b) e ws t = when-numbered t _ _ tt
+
+-- a refusal of a plain turn leaves the words, and tells no step
+abbrev AsFound : List ℕ → Reply → Type 0
+AsFound ws r = (r .words ≡ ws) × (r .steps ≡ 0)
+
+plain-refused : (ws : List ℕ) (t : Table) (turn : Turn) → Plainly t turn → (r : Refusal) → replyOf ws turn .says ≡ toldRefusal r → AsFound ws (replyOf ws turn)
+unfolding replyOf
+plain-refused ws t (refuse w) h r e = (refl, refl)
+plain-refused ws t (tell a) h r e = (refl, refl)
+plain-refused ws t (leave a k u) h r e = absurd (never-refused a (h .0) r e)
+
+turn-refused : (c : Call) → isWork c ≡ false → (ws : List ℕ) (r : Refusal) → perform c ws .says ≡ toldRefusal r → AsFound ws (perform c ws)
+unfolding perform onTable
+turn-refused c w ws =
+    plain-refused ws (table ws) (cond (wellFormed ws) (turnOf c ws (table ws)) (refuse R.BadTable))
+    (passed (table ws) (wellFormed ws) (turnOf c ws (table ws)) R.BadTable (plainly c w ws (table ws)))
+
+-- demand 1, every call but work: "every refusal leaves all words"
+pub refused-as-found : (c : Call) → isWork c ≡ false → (ws : List ℕ) (r : Refusal) → perform c ws .says ≡ toldRefusal r → perform c ws .words ≡ ws
+refused-as-found c w ws r e = turn-refused c w ws r e .0
+
+-- and start
+pub start-refused-as-found : (names functor : ℕ) (c : Capacities) (ws : List ℕ) (r : Refusal) → start names functor c ws .says ≡ toldRefusal r
+    → start names functor c ws .words ≡ ws
+unfolding start replyOf
+start-refused-as-found names functor c ws r =
+    by-test (λ (turn : Turn). replyOf ws turn .says ≡ toldRefusal r → replyOf ws turn .words ≡ ws) (capacitiesRight names functor c ws)
+    (λ h e. absurd (never-refused (done []) tt r e)) (λ h e. refl)
+
+-- Work: what lacks room is refused by 5 or 6, so 1 and 4 come before any step.
+lacks-one : {R : Type 0} (v w : R) → _≡_ {A = Room R} (lacks v) (lacks w) → v ≡ w
+lacks-one v w e = cc
+
+lacking-room : (t : Bool) (v : Refusal) (x : Room Refusal) (w : Refusal) → T (forRoom v) → (x ≡ lacks w → T (forRoom w)) → cond t (lacks v) x ≡ lacks w → T (forRoom w)
+lacking-room true v x w h k e = subst (λ (r : Refusal). T (forRoom r)) (lacks-one v w e) h
+lacking-room false v x w h k e = k e
+
+fitting-room : (s : Store) (n : ℕ) (w : Refusal) → fitting s n ≡ lacks w → T (forRoom w)
+unfolding fitting
+fitting-room s n w =
+    let c = s .capacities in
+    lacking-room (ltb (c .entries) (length (s .entries))) _ _ w tt
+    (lacking-room (ltb (c .fields) (length (s .fields))) _ _ w tt
+    (lacking-room (ltb (c .bounds) (length (s .bounds))) _ _ w tt
+    (lacking-room (ltb (c .visited) (length (s .visited))) _ _ w tt
+    (lacking-room (ltb (c .pending) n) _ _ w tt
+    (lacking-room (ltb (c .equals) (length (s .equals))) _ _ w tt
+    (lacking-room (tooDeep (s .entries)) _ _ w tt
+    (λ e. let z : _≡_ {A = ℕ} 0 1 = cc in absurd (omega arith))))))))
+
+room-for : (n : ℕ) (o : Outcome Store Pair Failure) (w : Refusal) → roomFor n o ≡ lacks w → T (forRoom w)
+unfolding roomFor
+room-for n (fails f u) w = fitting-room u n w
+room-for n (goes u qs) w = fitting-room u _ w
+
+room-room : (s : Store) (p : Pair) (before : List Pair) (w : Refusal) → room s p before ≡ lacks w → T (forRoom w)
+unfolding room
+room-room s p before w = room-for (length before) (rule s p) w
+
+-- what ends in a pair is not empty
+ending-asked : (u : Store) (before : List Pair) (next : Pair) → T (isAsked (tableOf u (before ++ (next ∷ []))))
+unfolding isAsked stateOf
+ending-asked u [] next = tt
+ending-asked u (p ∷ before) next = tt
+
+-- a turn of work refuses outright by another than 5 or 6; where it says a refusal of what it leaves, that is one of these, after
+-- fewer steps than the budget, and something is pending
+abbrev Worked : ℕ → Turn → Type 0
+Worked budget (refuse r) = forRoom r ≡ false
+Worked budget (tell a) = ⊥
+Worked budget (leave a k u) = (r : Refusal) → a ≡ toldRefusal r → T (forRoom r) × (k < budget) × T (isAsked u)
+
+worked-by : (budget : ℕ) (t : Table) (x : Roomed Store Pair Failure Refusal) → machine.work rule room budget (t .store) (t .pending) ≡ x
+    → Worked budget (workedTurn budget x)
+unfolding workedTurn
+worked-by budget t (answered (yes-in k u)) g = λ r e. absurd (never-refused yes tt r e)
+worked-by budget t (answered (fail-in k f u)) g = λ r e. absurd (never-refused (toldFailure f) (failure-not-refused f) r e)
+worked-by budget t (answered (more-at u q)) g = λ r e. absurd (never-refused more tt r e)
+worked-by budget t (refused-in k w u q) g = λ r e.
+    let h : Refused-at rule room budget (t .store) (t .pending) k w u q = work-refusal rule room budget (t .store) (t .pending) g in (
+      subst (λ (v : Refusal). T (forRoom v)) (refusal-one-to-one w r e) (room-room u (h .next) (h .before) w (h .lacking)),
+      h .fewer,
+      rw (h .pending) (ending-asked u (h .before) (h .next)),
+    )
+
+work-worked : (budget : ℕ) (t : Table) → Worked budget (workTurn budget t)
+unfolding workTurn whenAsked
+work-worked budget t =
+    by-test (Worked budget) (isAsked t) (λ h. worked-by budget t (machine.work rule room budget (t .store) (t .pending)) refl) (λ h. refl)
+
+-- what work says but 1 and 4, it says of a well formed image that is asked
+taken : (f g : Bool) (ws : List ℕ) (turn : Turn) (a : Told) → (a ≡ toldRefusal R.BadTable → ⊥) → (a ≡ toldRefusal R.Idle → ⊥)
+    → replyOf ws (cond f (cond g turn (refuse R.Idle)) (refuse R.BadTable)) .says ≡ a → T f × T g
+unfolding replyOf
+taken true true ws turn a n m e = (tt, tt)
+taken true false ws turn a n m e = absurd (m (sym e))
+taken false g ws turn a n m e = absurd (n (sym e))
+
+pub work-taken : (b : ℕ) (ws : List ℕ) (a : Told) → (a ≡ toldRefusal R.BadTable → ⊥) → (a ≡ toldRefusal R.Idle → ⊥) → perform (works b) ws .says ≡ a
+    → T (wellFormed ws) × T (isAsked (table ws))
+unfolding perform onTable turnOf workTurn whenAsked
+work-taken b ws a n m e =
+    taken (wellFormed ws) (isAsked (table ws)) ws (workedTurn b (machine.work rule room b (table ws .store) (table ws .pending))) a n m e
+
+worked-refused : (b : ℕ) (ws : List ℕ) (turn : Turn) → Worked b turn → (r : Refusal) → replyOf ws turn .says ≡ toldRefusal r → forRoom r ≡ false → AsFound ws (replyOf ws turn)
+unfolding replyOf
+worked-refused b ws (refuse w) h r e n = (refl, refl)
+worked-refused b ws (tell a) h r e n = absurd h
+worked-refused b ws (leave a k u) h r e n = absurd (no-test (forRoom r) n (h r e .0))
+
+-- demand 1, work refused by anything but 5 or 6: every word as found, and no step
+pub work-refused-as-found : (b : ℕ) (ws : List ℕ) (r : Refusal) → forRoom r ≡ false → perform (works b) ws .says ≡ toldRefusal r
+    → (perform (works b) ws .words ≡ ws) × (perform (works b) ws .steps ≡ 0)
+unfolding perform onTable turnOf
+work-refused-as-found b ws r n e =
+    worked-refused b ws (cond (wellFormed ws) (workTurn b (table ws)) (refuse R.BadTable))
+    (by-test (Worked b) (wellFormed ws) (λ h. work-worked b (table ws)) (λ h. refl)) r e n
+
+-- refusals that differ are told differently
+other-refusal : (r w : Refusal) → T (forRoom r) → forRoom w ≡ false → toldRefusal r ≡ toldRefusal w → ⊥
+other-refusal r w h n e = no-test (forRoom w) n (subst (λ (v : Refusal). T (forRoom v)) (refusal-one-to-one r w e) h)
+
+worked-stays : (b : ℕ) (ws : List ℕ) (t : Table) (turn : Turn) → Worked b turn → TurnSound t turn → (r : Refusal) → T (forRoom r) → replyOf ws turn .says ≡ toldRefusal r
+    → (replyOf ws turn .steps < b) × T (isAsked (table (replyOf ws turn .words)))
+unfolding replyOf
+worked-stays b ws t (refuse w) h s r n e = absurd (other-refusal r w n h (sym e))
+worked-stays b ws t (tell a) h s r n e = absurd h
+worked-stays b ws t (leave a k u) h s r n e = (h r e .1, rw (read-back u (s .0)) (h r e .2))
+
+-- demand 1, work refused by 5 or 6: the words of the steps before, their number, and it stays asked
+module _ (b : ℕ) (ws : List ℕ) (r : Refusal) (room-or-depth : forRoom r ≡ true) (e : perform (works b) ws .says ≡ toldRefusal r) where
+  of-asked : T (wellFormed ws) × T (isAsked (table ws))
+  of-asked =
+      let h = of-true (forRoom r) room-or-depth in
+      work-taken b ws (toldRefusal r) (other-refusal r R.BadTable h refl) (other-refusal r R.Idle h refl) e
+
+  stays-asked : (perform (works b) ws .steps < b) × T (isAsked (table (perform (works b) ws .words)))
+  unfolding perform onTable turnOf
+  stays-asked =
+      let t : Table = table ws in
+      let turn : Turn = workTurn b t in
+      let s : replyOf ws turn .says ≡ toldRefusal r = rw (true-of (wellFormed ws) (of-asked .0)) at e in
+      rw (true-of (wellFormed ws) (of-asked .0))
+      (worked-stays b ws t turn (work-worked b t) (work-turn-sound t (sound-table ws (of-asked .0)) b) r (of-true (forRoom r) room-or-depth) s)
+
+  pub work-refused-keeps : KeepsEarlier b ws (perform (works b) ws .steps) (perform (works b) ws .words)
+  work-refused-keeps =
+      record {
+        formed = of-asked .0;
+        asked = of-asked .1;
+        fewer = stays-asked .0;
+        earlier = refusal-keeps b ws (of-asked .0) (of-asked .1) r e;
+        stays = (call-formed (works b) (omega arith) ws (of-asked .0), stays-asked .1);
+      }
