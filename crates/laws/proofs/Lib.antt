@@ -19,3 +19,4 @@ pub mod Calls
 pub mod Demands
 pub mod Questions
 pub mod Refused
+pub mod Breaks

@@ -174,6 +174,30 @@ plainly (readsEntry n) e ws t = when-numbered t _ _ tt
 plainly (readsRecord k i) e ws t = when-numbered t _ _ tt
 plainly (readsDisjoint a b) e ws t = when-numbered t _ _ tt
 
+-- work, or another call
+pub by-call : (P : Call → Type 0) → ((c : Call) → isWork c ≡ false → P c) → ((b : ℕ) → P (works b)) → (c : Call) → P c
+by-call P f g makesVariable = f makesVariable refl
+by-call P f g (makesPrimitive p) = f (makesPrimitive p) refl
+by-call P f g (makesList x) = f (makesList x) refl
+by-call P f g (makesLambda p b) = f (makesLambda p b) refl
+by-call P f g (makesAttrset l wide d) = f (makesAttrset l wide d) refl
+by-call P f g (makesNamed x label) = f (makesNamed x label) refl
+by-call P f g (makesNeg n) = f (makesNeg n) refl
+by-call P f g (makesInter a b) = f (makesInter a b) refl
+by-call P f g (makesUnion a b) = f (makesUnion a b) refl
+by-call P f g (marks n) = f (marks n) refl
+by-call P f g (putsBound v side b) = f (putsBound v side b) refl
+by-call P f g enters = f enters refl
+by-call P f g exits = f exits refl
+by-call P f g (setsLevel v l) = f (setsLevel v l) refl
+by-call P f g (asks held a b) = f (asks held a b) refl
+by-call P f g (asksEqual held a b) = f (asksEqual held a b) refl
+by-call P f g (works b) = g b
+by-call P f g abandons = f abandons refl
+by-call P f g (readsEntry n) = f (readsEntry n) refl
+by-call P f g (readsRecord k i) = f (readsRecord k i) refl
+by-call P f g (readsDisjoint a b) = f (readsDisjoint a b) refl
+
 -- a refusal of a plain turn leaves the words, and tells no step
 abbrev AsFound : List ℕ → Reply → Type 0
 AsFound ws r = (r .words ≡ ws) × (r .steps ≡ 0)
@@ -210,7 +234,7 @@ lacking-room : (t : Bool) (v : Refusal) (x : Room Refusal) (w : Refusal) → T (
 lacking-room true v x w h k e = subst (λ (r : Refusal). T (forRoom r)) (lacks-one v w e) h
 lacking-room false v x w h k e = k e
 
-fitting-room : (s : Store) (n : ℕ) (w : Refusal) → fitting s n ≡ lacks w → T (forRoom w)
+pub fitting-room : (s : Store) (n : ℕ) (w : Refusal) → fitting s n ≡ lacks w → T (forRoom w)
 unfolding fitting
 fitting-room s n w =
     let c = s .capacities in
@@ -292,7 +316,7 @@ work-refused-as-found b ws r n e =
     (by-test (Worked b) (wellFormed ws) (λ h. work-worked b (table ws)) (λ h. refl)) r e n
 
 -- refusals that differ are told differently
-other-refusal : (r w : Refusal) → T (forRoom r) → forRoom w ≡ false → toldRefusal r ≡ toldRefusal w → ⊥
+pub other-refusal : (r w : Refusal) → T (forRoom r) → forRoom w ≡ false → toldRefusal r ≡ toldRefusal w → ⊥
 other-refusal r w h n e = no-test (forRoom w) n (subst (λ (v : Refusal). T (forRoom v)) (refusal-one-to-one r w e) h)
 
 worked-stays : (b : ℕ) (ws : List ℕ) (t : Table) (turn : Turn) → Worked b turn → TurnSound t turn → (r : Refusal) → T (forRoom r) → replyOf ws turn .says ≡ toldRefusal r

@@ -3,14 +3,16 @@
 use Prim.Native.Nat.{ℕ, _<_}
 use mathlib.Core.Path.{_≡_}
 use mathlib.Core.List.{List, [], _∷_}
-use mathlib.Core.Bool.{Bool, true, false}
+use mathlib.Core.Bool.{Bool, true, false, not, cond}
 use lib.Dec.{T}
 use Rattle.model.specs.Format.{wordEnd}
-use Rattle.model.specs.Table.{isAsked}
+use Rattle.model.specs.Table.{Break, Store, isAsked, isBroken}
 use Rattle.model.specs.Image.{table}
 use Rattle.model.specs.Formed.{wellFormed}
-use Rattle.model.specs.Calls.{Call, makesVariable, makesPrimitive, makesList, makesLambda, makesAttrset, makesNamed, makesNeg, makesInter, makesUnion, marks, putsBound, enters, exits, setsLevel, asks, asksEqual, works, abandons, readsEntry, readsRecord, readsDisjoint, perform}
+use Rattle.model.specs.Rules.{breakOf}
+use Rattle.model.specs.Calls.{brokenBy, Call, makesVariable, makesPrimitive, makesList, makesLambda, makesAttrset, makesNamed, makesNeg, makesInter, makesUnion, marks, putsBound, enters, exits, setsLevel, asks, asksEqual, works, abandons, readsEntry, readsRecord, readsDisjoint, perform}
 use Rattle.model.specs.Told.{more}
+use Rattle.model.specs.declared.Failure.{Failure}
 use Rattle.model.specs.declared.Refusal.{Refusal}
 use Rattle.model.specs.declared.Refusal.the-variants as R
 use Rattle.laws.specs.Turns.{storedArgument}
@@ -61,6 +63,18 @@ pub record KeepsEarlier (budget : ℕ) (ws : List ℕ) (steps : ℕ) (after : Li
   pub fewer : steps < budget
   pub earlier : perform (works steps) ws ≡ record { says = more; steps = steps; words = after }
   pub stays : T (wellFormed after) × T (isAsked (table after))
+
+-- "Failure .. fills words 2 to 5 if kind was 0": the break after a failure
+abbrev pub breakAfter : Failure → Store → Break
+breakAfter f s = cond (isBroken s) (s .broken) (breakOf f)
+
+-- refused by 8: a held question, of a well formed image that is idle, with a break, which the refusal carries
+pub record RefusedBroken (held : Bool) (ws : List ℕ) (r : Refusal) : Type 0 where
+  pub formed : T (wellFormed ws)
+  pub idle : T (not (isAsked (table ws)))
+  pub question : held ≡ true
+  pub broken : T (isBroken (table ws .store))
+  pub carries : r ≡ brokenBy (table ws .store .broken)
 
 -- calls one after the other: the words after
 unfoldable pub performAll : List Call → List ℕ → List ℕ

@@ -1,0 +1,260 @@
+-- Demand 2's held questions: what fills the break words and what keeps them. No call but start changes a break that is there; a
+-- failed question leaves one; a held question is refused with it exactly where there is one. Assumes nothing.
+use Prim.Native.Nat.{ℕ, _<_}
+use native.Mathlib.Omega.{arith}
+use mathlib.Core.Path.{_≡_, refl, sym, ap, _∙_, subst}
+use mathlib.Core.List.{List, [], _∷_, _++_, reverse}
+use mathlib.Core.Bool.{Bool, true, false, not, cond, _&&_, _||_}
+use mathlib.Core.Option.{Option, none, some}
+use lib.ListN.{length}
+use lib.Dec.{T, eqb}
+use Rattle.instalments.specs.Machine.{Outcome, fails, goes, Room, enough, lacks, yes-in, fail-in, more-at, Roomed, answered, refused-in}
+use Rattle.instalments.specs.Machine as machine
+use Rattle.instalments.proofs.Kept.{Kept, work-kept}
+use Rattle.model.specs.Format.{wordEnd, variable, unbroken, mismatched, fieldMissing}
+use Rattle.model.specs.Table.{Entry, Field, Pair, Break, Store, Table, tableOf, isAsked, isBroken, isAt, marked, withBroken, withVisited, withEntries, withBounds, entryAt}
+use Rattle.model.specs.Image.{table}
+use Rattle.model.specs.Making.{Making, addBound, boundsIn, repeats, markEntry, newEntry, makeNeg}
+use Rattle.model.specs.Shapes.{disjoint, compatible, functorOf, disjointFromSup, fieldsOf}
+use Rattle.model.specs.Formed.{isEntry, wellFormed}
+use Rattle.model.specs.Rules.{Effect, mismatch, missing, follow, Gathered, gathered, lacking, gather, dynamics, gatheredEffect, attrsets, followMade, target, isolate, chosen, leftInter, rightBoth, rightOne, rightOpen, rightKind, rightClosed, rightUnion, functorRule, underNegation, Arm, subNamed, supNamed, lambdas, lists, bothAttrsets, nothing, negs, underNeg, supInter, subUnion, subInter, supUnion, functor, noArm, armOf, byArm, concrete, passMark, subVariable, supVariable, pairRule, isVisited, visit, breakOf, fillBreak, failing, outcomeOf, rule}
+use Rattle.model.specs.Room.{room}
+use Rattle.model.specs.declared.Failure.{Failure}
+use Rattle.model.specs.declared.Failure.the-variants.{Mismatch, MissingField}
+use Rattle.model.specs.Calls.{Turn, refuse, tell, leave, replyOf, onTable, whenIdle, whenAsked, whenNumbered, leaveBy, leaveIfRoom, brokenBy, question, askTurn, equalled, askEqualTurn, workedTurn, workTurn, Call, asks, asksEqual, works, turnOf, perform}
+use Rattle.model.specs.Told.{Told, done, yes, more, failed, refused, toldRefusal, toldFailure}
+use Rattle.model.proofs.OneToOne.{refusal-one-to-one, failure-one-to-one}
+use Rattle.model.specs.declared.Refusal.{Refusal}
+use Rattle.model.specs.declared.Refusal.the-variants as R
+use Rattle.laws.specs.Turns.{TurnSound, storedArgument}
+use Rattle.laws.specs.Refusals.{isWork, forRoom, breakAfter, RefusedBroken, performAll, AllFit}
+use Rattle.laws.proofs.Tests.{true-of, of-true, no-test}
+use Rattle.laws.proofs.Stores.{by-test}
+use Rattle.laws.proofs.Formed.{sound-table}
+use Rattle.laws.proofs.Turns.{work-turn-sound}
+use Rattle.laws.proofs.Calls.{turn-sound, read-back, call-formed}
+use Rattle.laws.proofs.Refused.{NotRefused, never-refused, failure-not-refused, Plainly, plainly, by-call, fitting-room, other-refusal, work-taken}
+
+-- A rule leaves the break that was; where it fails, the failure fills it if there was none.
+abbrev SameBreak : Store → Effect → Type 0
+SameBreak s mismatch = Unit {0}
+SameBreak s (missing n) = Unit {0}
+SameBreak s (follow u ps) = u .broken ≡ s .broken
+
+module _ (s : Store) where
+  gathered-break : (g : Gathered) → SameBreak s (gatheredEffect s g)
+  unfolding gatheredEffect
+  gathered-break (gathered ps) = refl
+  gathered-break (lacking n) = tt
+
+  made-break : (c : ℕ) (m : Making) → SameBreak s (followMade s c m)
+  unfolding followMade withEntries
+  made-break c m = refl
+
+  isolate-break : (c d sup : ℕ) → SameBreak s (isolate s c d sup)
+  unfolding isolate
+  isolate-break c d sup =
+      by-test (SameBreak s) (disjointFromSup s (entryAt (s .entries) sup) d) (λ h. tt) (λ h. made-break c (target sup (makeNeg (s .entries) d)))
+
+  left-break : (a b sup : ℕ) → SameBreak s (leftInter s a b sup)
+  unfolding leftInter
+  left-break a b sup =
+      by-test (SameBreak s) (chosen (s .entries) a b)
+      (λ h. by-test (SameBreak s) (chosen (s .entries) b a) (λ k. refl) (λ k. isolate-break a b sup))
+      (λ h. by-test (SameBreak s) (chosen (s .entries) b a) (λ k. isolate-break b a sup) (λ k. refl))
+
+  open-break : (sub c v : ℕ) → SameBreak s (rightOpen s sub c v)
+  unfolding rightOpen rightOne
+  open-break sub c v = by-test (SameBreak s) (compatible s (entryAt (s .entries) sub) (entryAt (s .entries) c)) (λ h. refl) (λ h. refl)
+
+  kind-break : (sub a b : ℕ) → SameBreak s (rightKind s sub a b)
+  unfolding rightKind rightBoth rightOne
+  kind-break sub a b =
+      let kind = entryAt (s .entries) sub .kind in
+      by-test (SameBreak s) (isAt (s .entries) kind a)
+      (λ h. by-test (SameBreak s) (isAt (s .entries) kind b) (λ k. refl) (λ k. refl))
+      (λ h. by-test (SameBreak s) (isAt (s .entries) kind b) (λ k. refl) (λ k. refl))
+
+  closed-break : (sub a b : ℕ) → SameBreak s (rightClosed s sub a b)
+  unfolding rightClosed rightOne
+  closed-break sub a b =
+      let e = entryAt (s .entries) sub in
+      by-test (SameBreak s) (disjoint s e (entryAt (s .entries) a))
+      (λ h. by-test (SameBreak s) (disjoint s e (entryAt (s .entries) b)) (λ k. tt) (λ k. refl))
+      (λ h. by-test (SameBreak s) (disjoint s e (entryAt (s .entries) b)) (λ k. refl) (λ k. kind-break sub a b))
+
+  right-break : (sub a b : ℕ) → SameBreak s (rightUnion s sub a b)
+  unfolding rightUnion rightBoth
+  right-break sub a b =
+      by-test (SameBreak s) (isAt (s .entries) variable a)
+      (λ h. by-test (SameBreak s) (isAt (s .entries) variable b) (λ k. refl) (λ k. open-break sub b a))
+      (λ h. by-test (SameBreak s) (isAt (s .entries) variable b) (λ k. open-break sub a b) (λ k. closed-break sub a b))
+
+  functor-break : (sub : ℕ) (b : Entry) (f : Option Field) → SameBreak s (functorRule s sub b f)
+  unfolding functorRule
+  functor-break sub b none = tt
+  functor-break sub b (some f) = made-break _ _
+
+  arm-break : (sub sup : ℕ) (a b : Entry) (arm : Arm) → SameBreak s (byArm s sub sup a b arm)
+  unfolding byArm attrsets underNegation
+  arm-break sub sup a b subNamed = refl
+  arm-break sub sup a b supNamed = refl
+  arm-break sub sup a b lambdas = refl
+  arm-break sub sup a b lists = refl
+  arm-break sub sup a b bothAttrsets = gathered-break (gather a (fieldsOf (s .fields) a) (dynamics a b) (fieldsOf (s .fields) b))
+  arm-break sub sup a b nothing = refl
+  arm-break sub sup a b negs = refl
+  arm-break sub sup a b underNeg = by-test (SameBreak s) (disjoint s a (entryAt (s .entries) (b .x))) (λ h. refl) (λ h. tt)
+  arm-break sub sup a b supInter = refl
+  arm-break sub sup a b subUnion = refl
+  arm-break sub sup a b subInter = left-break (a .x) (a .y) sup
+  arm-break sub sup a b supUnion = right-break sub (b .x) (b .y)
+  arm-break sub sup a b functor = functor-break sub b (functorOf s a)
+  arm-break sub sup a b noArm = tt
+
+  add-break : (v side b : ℕ) → addBound v side b s .broken ≡ s .broken
+  unfolding addBound withBounds
+  add-break v side b = by-test (λ (u : Store). u .broken ≡ s .broken) (repeats (boundsIn (s .bounds) v side) b) (λ h. refl) (λ h. refl)
+
+  pass-break : (sub sup : ℕ) → passMark sub sup s .broken ≡ s .broken
+  unfolding passMark markEntry withEntries
+  pass-break sub sup = by-test (λ (u : Store). u .broken ≡ s .broken) (isAt (s .entries) variable sup && marked (entryAt (s .entries) sub)) (λ h. refl) (λ h. refl)
+
+pair-break : (s : Store) (sub sup : ℕ) → SameBreak s (pairRule s sub sup)
+unfolding pairRule subVariable supVariable concrete
+pair-break s sub sup =
+    by-test (SameBreak s) (isAt (s .entries) variable sub)
+    (λ h. pass-break (addBound sub _ sup s) sub sup ∙ add-break s sub _ sup)
+    (λ h. by-test (SameBreak s) (isAt (s .entries) variable sup) (λ k. add-break s sup _ sub)
+    (λ k. arm-break s sub sup (entryAt (s .entries) sub) (entryAt (s .entries) sup) _))
+
+abbrev BreakAfter : Store → Outcome Store Pair Failure → Type 0
+BreakAfter s (goes u qs) = u .broken ≡ s .broken
+BreakAfter s (fails f u) = u .broken ≡ breakAfter f s
+
+filled : (s : Store) (f : Failure) → fillBreak f s .broken ≡ breakAfter f s
+unfolding fillBreak withBroken
+filled s f = filled-by (isBroken s)
+  where
+    filled-by : (t : Bool) → cond t s (withBroken (breakOf f) s) .broken ≡ cond t (s .broken) (breakOf f)
+    filled-by true = refl
+    filled-by false = refl
+
+outcome-break : (s : Store) (p : Pair) (e : Effect) → SameBreak s e → BreakAfter s (outcomeOf s p e)
+unfolding outcomeOf failing
+outcome-break s p mismatch h = filled s (Mismatch (p .sub) (p .sup))
+outcome-break s p (missing n) h = filled s (MissingField (p .sub) (p .sup) n)
+outcome-break s p (follow u ps) h = h
+
+-- a visited pair leaves it too
+of-visited : (s : Store) (p : Pair) (o : Outcome Store Pair Failure) → BreakAfter (visit p s) o → BreakAfter s o
+unfolding visit withVisited isBroken
+of-visited s p (goes u qs) h = h
+of-visited s p (fails f u) h = h
+
+rule-break : (s : Store) (p : Pair) → BreakAfter s (rule s p)
+unfolding rule
+rule-break s p =
+    let v : Store = visit p s in
+    by-test (BreakAfter s) (eqb (p .sub) (p .sup) || isVisited s p) (λ h. refl)
+    (λ h. of-visited s p (outcomeOf v p (pairRule v (p .sub) (p .sup))) (outcome-break v p (pairRule v (p .sub) (p .sup)) (pair-break v (p .sub) (p .sup))))
+
+-- An instalment, from a store with the break `b`: the same break, or, at a failure, `b` if it is one, else the failure's.
+abbrev SinceBreak : Break → Store → List Pair → Type 0
+SinceBreak b s ps = s .broken ≡ b
+
+abbrev FailedBreak : Store → Failure → Store → Type 0
+FailedBreak s f u = u .broken ≡ breakAfter f s
+
+before-same : (s u : Store) (f : Failure) → u .broken ≡ s .broken → breakAfter f u ≡ breakAfter f s
+unfolding isBroken
+before-same s u f e = rw e
+
+work-break : (n : ℕ) (s : Store) (ps : List Pair) → Kept (SinceBreak (s .broken)) (FailedBreak s) (machine.work rule room n s ps)
+work-break n s ps =
+    work-kept rule room (SinceBreak (s .broken)) (FailedBreak s)
+    (λ t u before qs p h e g. goes-break t u qs p g ∙ h)
+    (λ t u before p f h e g. fails-break t u p f g ∙ before-same s t f h) n s ps refl
+  where
+    goes-break : (t u : Store) (qs : List Pair) (p : Pair) → rule t p ≡ goes u qs → u .broken ≡ t .broken
+    goes-break t u qs p g = subst (λ (o : Outcome Store Pair Failure). BreakAfter t o) g (rule-break t p)
+
+    fails-break : (t u : Store) (p : Pair) (f : Failure) → rule t p ≡ fails f u → u .broken ≡ breakAfter f t
+    fails-break t u p f g = subst (λ (o : Outcome Store Pair Failure). BreakAfter t o) g (rule-break t p)
+
+-- what is told is no failure
+abbrev NotFailed : Told → Type 0
+NotFailed (done l) = Unit {0}
+NotFailed yes = Unit {0}
+NotFailed more = Unit {0}
+NotFailed (failed n l) = ⊥
+NotFailed (refused n l) = Unit {0}
+
+failure-failed : (f : Failure) → NotFailed (toldFailure f) → ⊥
+failure-failed (Mismatch sub sup) h = h
+failure-failed (MissingField sub sup name) h = h
+
+refusal-not-failed : (r : Refusal) → NotFailed (toldRefusal r)
+refusal-not-failed R.BadTable = tt
+refusal-not-failed R.BadNumber = tt
+refusal-not-failed R.Busy = tt
+refusal-not-failed R.Idle = tt
+refusal-not-failed (R.NoRoom region) = tt
+refusal-not-failed R.TooDeep = tt
+refusal-not-failed R.BadFields = tt
+refusal-not-failed (R.Broken kind sub sup name) = tt
+refusal-not-failed R.BadCapacity = tt
+refusal-not-failed R.Level = tt
+refusal-not-failed R.NotAVariable = tt
+refusal-not-failed R.BadNames = tt
+
+-- a turn of work: it leaves the break that was, or at a failure that one or the failure's
+abbrev BreakLeft : Table → Turn → Type 0
+BreakLeft t (refuse r) = Unit {0}
+BreakLeft t (tell a) = Unit {0}
+BreakLeft t (leave a k u) = (T (isBroken (t .store)) → u .store .broken ≡ t .store .broken) × ((f : Failure) → a ≡ toldFailure f → u .store .broken ≡ breakAfter f (t .store))
+
+not-failure : (a : Told) → NotFailed a → (f : Failure) → a ≡ toldFailure f → ⊥
+not-failure a h f e = failure-failed f (subst (λ (b : Told). NotFailed b) e h)
+
+worked-break : (budget : ℕ) (t : Table) (x : Roomed Store Pair Failure Refusal) → Kept (SinceBreak (t .store .broken)) (FailedBreak (t .store)) x → BreakLeft t (workedTurn budget x)
+unfolding workedTurn
+worked-break budget t (answered (yes-in k u)) h = (λ b. h, λ f e. absurd (not-failure yes tt f e))
+worked-break budget t (answered (fail-in k f u)) h =
+    (λ b. h ∙ rw (true-of (isBroken (t .store)) b), λ w e. h ∙ ap (λ (g : Failure). breakAfter g (t .store)) (failure-one-to-one f w e))
+worked-break budget t (answered (more-at u q)) h = (λ b. h, λ f e. absurd (not-failure more tt f e))
+worked-break budget t (refused-in k w u q) h = (λ b. h, λ f e. absurd (not-failure (toldRefusal w) (refusal-not-failed w) f e))
+
+work-turn-break : (t : Table) (budget : ℕ) → BreakLeft t (workTurn budget t)
+unfolding workTurn whenAsked
+work-turn-break t budget =
+    by-test (BreakLeft t) (isAsked t)
+    (λ h. worked-break budget t (machine.work rule room budget (t .store) (t .pending)) (work-break budget (t .store) (t .pending))) (λ h. tt)
+
+-- (a) a break that is there stays, whatever the call
+plain-break : (ws : List ℕ) (turn : Turn) → Plainly (table ws) turn → TurnSound (table ws) turn → table (replyOf ws turn .words) .store .broken ≡ table ws .store .broken
+unfolding replyOf
+plain-break ws (refuse r) h s = refl
+plain-break ws (tell a) h s = refl
+plain-break ws (leave a k u) h s = rw (read-back u (s .0)) (h .2)
+
+work-stays : (ws : List ℕ) (turn : Turn) → BreakLeft (table ws) turn → TurnSound (table ws) turn → T (isBroken (table ws .store))
+    → table (replyOf ws turn .words) .store .broken ≡ table ws .store .broken
+unfolding replyOf
+work-stays ws (refuse r) h s b = refl
+work-stays ws (tell a) h s b = refl
+work-stays ws (leave a k u) h s b = rw (read-back u (s .0)) (h .0 b)
+
+pub call-keeps-break : (c : Call) → storedArgument c < wordEnd → (ws : List ℕ) → T (wellFormed ws) → T (isBroken (table ws .store))
+    → table (perform c ws .words) .store .broken ≡ table ws .store .broken
+unfolding perform onTable turnOf
+call-keeps-break c fits ws h b = by-call P other work c fits
+  where
+    P : Call → Type 0
+    P d = storedArgument d < wordEnd → table (replyOf ws (cond (wellFormed ws) (turnOf d ws (table ws)) (refuse R.BadTable)) .words) .store .broken ≡ table ws .store .broken
+
+    other : (d : Call) → isWork d ≡ false → P d
+    other d n fits = rw (true-of (wellFormed ws) h) (plain-break ws (turnOf d ws (table ws)) (plainly d n ws (table ws)) (turn-sound d fits ws (table ws) (sound-table ws h)))
+
+    work : (budget : ℕ) → P (works budget)
+    work budget fits = rw (true-of (wellFormed ws) h) (work-stays ws (workTurn budget (table ws)) (work-turn-break (table ws) budget) (work-turn-sound (table ws) (sound-table ws h) budget) b)
