@@ -18,7 +18,7 @@ use Rattle.model.specs.Making.{Making, addBound, boundsIn, repeats, markEntry, 
 use Rattle.model.specs.Shapes.{disjoint, compatible, functorOf, disjointFromSup, fieldsOf}
 use Rattle.model.specs.Formed.{isEntry, wellFormed}
 use Rattle.model.specs.Rules.{Effect, mismatch, missing, follow, Gathered, gathered, lacking, gather, dynamics, gatheredEffect, attrsets, followMade, target, isolate, chosen, leftInter, rightBoth, rightOne, rightOpen, rightKind, rightClosed, rightUnion, functorRule, underNegation, Arm, subNamed, supNamed, lambdas, lists, bothAttrsets, nothing, negs, underNeg, supInter, subUnion, subInter, supUnion, functor, noArm, armOf, byArm, concrete, passMark, subVariable, supVariable, pairRule, isVisited, visit, breakOf, fillBreak, failing, outcomeOf, rule}
-use Rattle.model.specs.Room.{room}
+use Rattle.model.specs.Room.{fitting, room}
 use Rattle.model.specs.declared.Failure.{Failure}
 use Rattle.model.specs.declared.Failure.the-variants.{Mismatch, MissingField}
 use Rattle.model.specs.Calls.{Turn, refuse, tell, leave, replyOf, onTable, whenIdle, whenAsked, whenNumbered, leaveBy, leaveIfRoom, brokenBy, question, askTurn, equalled, askEqualTurn, workedTurn, workTurn, Call, asks, asksEqual, works, turnOf, perform}
@@ -28,7 +28,7 @@ use Rattle.model.specs.declared.Refusal.{Refusal}
 use Rattle.model.specs.declared.Refusal.the-variants as R
 use Rattle.laws.specs.Turns.{TurnSound, storedArgument}
 use Rattle.laws.specs.Refusals.{isWork, forRoom, breakAfter, RefusedBroken, performAll, AllFit}
-use Rattle.laws.proofs.Tests.{true-of, of-true, no-test}
+use Rattle.laws.proofs.Tests.{true-of, of-true, no-test, first, second}
 use Rattle.laws.proofs.Stores.{by-test}
 use Rattle.laws.proofs.Formed.{sound-table}
 use Rattle.laws.proofs.Turns.{work-turn-sound}
@@ -258,3 +258,117 @@ call-keeps-break c fits ws h b = by-call P other work c fits
 
     work : (budget : ℕ) → P (works budget)
     work budget fits = rw (true-of (wellFormed ws) h) (work-stays ws (workTurn budget (table ws)) (work-turn-break (table ws) budget) (work-turn-sound (table ws) (sound-table ws h) budget) b)
+
+-- work does not just tell
+abbrev Left : Turn → Type 0
+Left (refuse r) = Unit {0}
+Left (tell a) = ⊥
+Left (leave a k u) = Unit {0}
+
+worked-left : (budget : ℕ) (x : Roomed Store Pair Failure Refusal) → Left (workedTurn budget x)
+unfolding workedTurn
+worked-left budget (answered (yes-in k u)) = tt
+worked-left budget (answered (fail-in k f u)) = tt
+worked-left budget (answered (more-at u q)) = tt
+worked-left budget (refused-in k w u q) = tt
+
+work-left : (budget : ℕ) (t : Table) → Left (workTurn budget t)
+unfolding workTurn whenAsked
+work-left budget t = by-test Left (isAsked t) (λ h. worked-left budget (machine.work rule room budget (t .store) (t .pending))) (λ h. tt)
+
+-- a failure's break is one
+break-kind : (f : Failure) → T (not (eqb (breakOf f .kind) unbroken))
+unfolding breakOf
+break-kind (Mismatch sub sup) = tt
+break-kind (MissingField sub sup name) = tt
+
+kind-since : (t : Bool) (b c : Break) → t ≡ not (eqb (b .kind) unbroken) → T (not (eqb (c .kind) unbroken)) → T (not (eqb (cond t b c .kind) unbroken))
+kind-since true b c e h = of-true (not (eqb (b .kind) unbroken)) (sym e)
+kind-since false b c e h = h
+
+broken-since : (s u : Store) (f : Failure) → u .broken ≡ breakAfter f s → T (isBroken u)
+unfolding isBroken
+broken-since s u f e = rw e (kind-since (isBroken s) (s .broken) (breakOf f) refl (break-kind f))
+
+-- (b) a question that fails leaves a break: the one that was, or, if there was none, its own
+failed-left : (ws : List ℕ) (turn : Turn) (f : Failure) → BreakLeft (table ws) turn → TurnSound (table ws) turn → replyOf ws turn .says ≡ toldFailure f → Left turn
+    → table (replyOf ws turn .words) .store .broken ≡ breakAfter f (table ws .store)
+unfolding replyOf
+failed-left ws (refuse r) f h s e n = absurd (not-failure (toldRefusal r) (refusal-not-failed r) f e)
+failed-left ws (tell a) f h s e n = absurd n
+failed-left ws (leave a k u) f h s e n = rw (read-back u (s .0)) (h .1 f e)
+
+module _ (b : ℕ) (ws : List ℕ) (f : Failure) (e : perform (works b) ws .says ≡ toldFailure f) where
+  pub failed-asked : T (wellFormed ws) × T (isAsked (table ws))
+  failed-asked =
+      let n : (r : Refusal) → toldFailure f ≡ toldRefusal r → ⊥ = never-refused (toldFailure f) (failure-not-refused f) in
+      work-taken b ws (toldFailure f) (n R.BadTable) (n R.Idle) e
+
+  pub failed-fills : table (perform (works b) ws .words) .store .broken ≡ breakAfter f (table ws .store)
+  unfolding perform onTable turnOf
+  failed-fills =
+      let t : Table = table ws in
+      let h = failed-asked .0 in
+      let s : replyOf ws (workTurn b t) .says ≡ toldFailure f = rw (true-of (wellFormed ws) h) at e in
+      rw (true-of (wellFormed ws) h) (failed-left ws (workTurn b t) f (work-turn-break t b) (work-turn-sound t (sound-table ws h) b) s (work-left b t))
+
+  pub failed-broken : T (isBroken (table (perform (works b) ws .words) .store))
+  failed-broken = broken-since (table ws .store) (table (perform (works b) ws .words) .store) f failed-fills
+
+  pub failed-first : isBroken (table ws .store) ≡ false → table (perform (works b) ws .words) .store .broken ≡ breakOf f
+  failed-first n = failed-fills ∙ rw n
+
+-- (c) a held question is refused by 8 exactly where there is a break
+abbrev Other : Turn → Type 0
+Other (refuse r) = (k x y n : ℕ) → r ≡ R.Broken k x y n → ⊥
+Other (tell a) = ⊥
+Other (leave a k u) = NotRefused a
+
+other-says : (ws : List ℕ) (turn : Turn) → Other turn → (k x y n : ℕ) → replyOf ws turn .says ≡ toldRefusal (R.Broken k x y n) → ⊥
+unfolding replyOf
+other-says ws (refuse r) h k x y n e = h k x y n (refusal-one-to-one r (R.Broken k x y n) e)
+other-says ws (tell a) h k x y n e = h
+other-says ws (leave a i u) h k x y n e = never-refused a h (R.Broken k x y n) e
+
+bad-number : Other (refuse R.BadNumber)
+bad-number k x y n e = let z : _≡_ {A = ℕ} 0 1 = cc in omega arith
+
+busy : Other (refuse R.Busy)
+busy k x y n e = let z : _≡_ {A = ℕ} 0 1 = cc in omega arith
+
+bad-table : Other (refuse R.BadTable)
+bad-table k x y n e = let z : _≡_ {A = ℕ} 0 1 = cc in omega arith
+
+by-room : (u : Table) (r : Room Refusal) → fitting (u .store) (length (u .pending)) ≡ r → Other (leaveBy r (done []) u)
+unfolding leaveBy
+by-room u enough e = tt
+by-room u (lacks w) e = λ k x y n g. other-refusal w (R.Broken k x y n) (fitting-room (u .store) (length (u .pending)) w e) refl (ap toldRefusal g)
+
+numbered : (b : Bool) (u : Table) → Other (whenNumbered b (leaveIfRoom (done []) u))
+unfolding whenNumbered leaveIfRoom
+numbered b u = by-test Other b (λ h. by-room u (fitting (u .store) (length (u .pending))) refl) (λ h. bad-number)
+
+-- the tests in turn: well formed, idle, held and broken
+eight : (formed asked test : Bool) (ws : List ℕ) (r : Refusal) (turn : Turn) → Other turn → (k x y n : ℕ)
+    → replyOf ws (cond formed (cond asked (refuse R.Busy) (cond test (refuse r) turn)) (refuse R.BadTable)) .says ≡ toldRefusal (R.Broken k x y n)
+    → T formed × T (not asked) × T test × (R.Broken k x y n ≡ r)
+unfolding replyOf
+eight true true test ws r turn h k x y n e = absurd (other-says ws (refuse R.Busy) busy k x y n e)
+eight true false true ws r turn h k x y n e = (tt, tt, tt, refusal-one-to-one (R.Broken k x y n) r (sym e))
+eight true false false ws r turn h k x y n e = absurd (other-says ws turn h k x y n e)
+eight false asked test ws r turn h k x y n e = absurd (other-says ws (refuse R.BadTable) bad-table k x y n e)
+
+question-eight : (held : Bool) (a b : ℕ) (ws : List ℕ) (u : Table) (k x y n : ℕ)
+    → replyOf ws (cond (wellFormed ws) (question held a b (table ws) u) (refuse R.BadTable)) .says ≡ toldRefusal (R.Broken k x y n) → RefusedBroken held ws (R.Broken k x y n)
+unfolding question whenIdle
+question-eight held a b ws u k x y n e =
+    let t : Table = table ws in
+    let ok : Bool = isEntry (t .store .entries) a && isEntry (t .store .entries) b in
+    let h = eight (wellFormed ws) (isAsked t) (held && isBroken (t .store)) ws (brokenBy (t .store .broken)) (whenNumbered ok (leaveIfRoom (done []) u)) (numbered ok u) k x y n e in
+    record {
+      formed = h .0;
+      idle = h .1;
+      isHeld = true-of held (first held (isBroken (t .store)) (h .2));
+      broken = second held (isBroken (t .store)) (h .2);
+      carries = h .3;
+    }
