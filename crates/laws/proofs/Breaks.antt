@@ -5,6 +5,7 @@ use native.Mathlib.Omega.{arith}
 use mathlib.Core.Path.{_≡_, refl, sym, ap, _∙_, subst}
 use mathlib.Core.List.{List, [], _∷_, _++_, reverse}
 use mathlib.Core.Bool.{Bool, true, false, not, cond, _&&_, _||_}
+use mathlib.Core.Logic.{_↔_}
 use mathlib.Core.Option.{Option, none, some}
 use lib.ListN.{length}
 use lib.Dec.{T, eqb}
@@ -12,7 +13,7 @@ use Rattle.instalments.specs.Machine.{Outcome, fails, goes, Room, enough, lacks
 use Rattle.instalments.specs.Machine as machine
 use Rattle.instalments.proofs.Kept.{Kept, work-kept}
 use Rattle.model.specs.Format.{wordEnd, variable, unbroken, mismatched, fieldMissing}
-use Rattle.model.specs.Table.{Entry, Field, Pair, Break, Store, Table, tableOf, isAsked, isBroken, isAt, marked, withBroken, withVisited, withEntries, withBounds, entryAt}
+use Rattle.model.specs.Table.{Entry, Field, Pair, _⊑_, Break, Store, Table, tableOf, isAsked, isBroken, isAt, marked, withBroken, withVisited, withEntries, withBounds, entryAt}
 use Rattle.model.specs.Image.{table}
 use Rattle.model.specs.Making.{Making, addBound, boundsIn, repeats, markEntry, newEntry, makeNeg}
 use Rattle.model.specs.Shapes.{disjoint, compatible, functorOf, disjointFromSup, fieldsOf}
@@ -290,6 +291,10 @@ broken-since : (s u : Store) (f : Failure) → u .broken ≡ breakAfter f s → 
 unfolding isBroken
 broken-since s u f e = rw e (kind-since (isBroken s) (s .broken) (breakOf f) refl (break-kind f))
 
+same-broken : (s u : Store) → u .broken ≡ s .broken → T (isBroken s) → T (isBroken u)
+unfolding isBroken
+same-broken s u e h = rw e h
+
 -- (b) a question that fails leaves a break: the one that was, or, if there was none, its own
 failed-left : (ws : List ℕ) (turn : Turn) (f : Failure) → BreakLeft (table ws) turn → TurnSound (table ws) turn → replyOf ws turn .says ≡ toldFailure f → Left turn
     → table (replyOf ws turn .words) .store .broken ≡ breakAfter f (table ws .store)
@@ -372,3 +377,90 @@ question-eight held a b ws u k x y n e =
       broken = second held (isBroken (t .store)) (h .2);
       carries = h .3;
     }
+
+module _ (held : Bool) (a b : ℕ) (ws : List ℕ) (k x y n : ℕ) where
+  pub ask-refused-broken : perform (asks held a b) ws .says ≡ toldRefusal (R.Broken k x y n) → RefusedBroken held ws (R.Broken k x y n)
+  unfolding perform onTable turnOf askTurn
+  ask-refused-broken e = question-eight held a b ws (tableOf (table ws .store) ((a ⊑ b) ∷ [])) k x y n e
+
+  pub ask-equal-refused-broken : perform (asksEqual held a b) ws .says ≡ toldRefusal (R.Broken k x y n) → RefusedBroken held ws (R.Broken k x y n)
+  unfolding perform onTable turnOf askEqualTurn
+  ask-equal-refused-broken e = question-eight held a b ws (tableOf (equalled a b (table ws .store)) ((b ⊑ a) ∷ (a ⊑ b) ∷ [])) k x y n e
+
+-- a plain question never is
+plain-not-held : (ws : List ℕ) (r : Refusal) → RefusedBroken false ws r → ⊥
+plain-not-held ws r h = let e = h .isHeld in let z : _≡_ {A = ℕ} 0 1 = cc in omega arith
+
+pub plain-never-broken : (a b : ℕ) (ws : List ℕ) (k x y n : ℕ) → perform (asks false a b) ws .says ≡ toldRefusal (R.Broken k x y n) → ⊥
+plain-never-broken a b ws k x y n e = plain-not-held ws (R.Broken k x y n) (ask-refused-broken false a b ws k x y n e)
+
+pub plain-equal-never-broken : (a b : ℕ) (ws : List ℕ) (k x y n : ℕ) → perform (asksEqual false a b) ws .says ≡ toldRefusal (R.Broken k x y n) → ⊥
+plain-equal-never-broken a b ws k x y n e = plain-not-held ws (R.Broken k x y n) (ask-equal-refused-broken false a b ws k x y n e)
+
+false-of : (t : Bool) → T (not t) → t ≡ false
+false-of true h = absurd h
+false-of false h = refl
+
+module _ (a b : ℕ) (ws : List ℕ) (h : T (wellFormed ws)) (idle : T (not (isAsked (table ws)))) where
+  question-held : (u : Table) → T (isBroken (table ws .store))
+      → replyOf ws (cond (wellFormed ws) (question true a b (table ws) u) (refuse R.BadTable)) .says ≡ toldRefusal (brokenBy (table ws .store .broken))
+  unfolding question whenIdle replyOf
+  question-held u broken = rw (true-of (wellFormed ws) h, false-of (isAsked (table ws)) idle, true-of (isBroken (table ws .store)) broken)
+
+  pub held-refused : T (isBroken (table ws .store)) → perform (asks true a b) ws .says ≡ toldRefusal (brokenBy (table ws .store .broken))
+  unfolding perform onTable turnOf askTurn
+  held-refused = question-held (tableOf (table ws .store) ((a ⊑ b) ∷ []))
+
+  pub held-equal-refused : T (isBroken (table ws .store)) → perform (asksEqual true a b) ws .says ≡ toldRefusal (brokenBy (table ws .store .broken))
+  unfolding perform onTable turnOf askEqualTurn
+  held-equal-refused = question-held (tableOf (equalled a b (table ws .store)) ((b ⊑ a) ∷ (a ⊑ b) ∷ []))
+
+  -- a held question of a well formed image that is idle: refused with the break exactly when its kind is not 0
+  pub held-refused-exactly : perform (asks true a b) ws .says ≡ toldRefusal (brokenBy (table ws .store .broken)) ↔ T (isBroken (table ws .store))
+  unfolding brokenBy
+  held-refused-exactly = (λ e. ask-refused-broken true a b ws _ _ _ _ e .broken, held-refused)
+
+  pub held-equal-refused-exactly : perform (asksEqual true a b) ws .says ≡ toldRefusal (brokenBy (table ws .store .broken)) ↔ T (isBroken (table ws .store))
+  unfolding brokenBy
+  held-equal-refused-exactly = (λ e. ask-equal-refused-broken true a b ws _ _ _ _ e .broken, held-equal-refused)
+
+-- with no break, a held question is the plain one
+module _ (a b : ℕ) (ws : List ℕ) (unbroken-yet : isBroken (table ws .store) ≡ false) where
+  pub held-as-plain : perform (asks true a b) ws ≡ perform (asks false a b) ws
+  unfolding perform onTable turnOf askTurn question
+  held-as-plain = rw unbroken-yet
+
+  pub held-equal-as-plain : perform (asksEqual true a b) ws ≡ perform (asksEqual false a b) ws
+  unfolding perform onTable turnOf askEqualTurn question
+  held-equal-as-plain = rw unbroken-yet
+
+-- (d) a break stays through any calls but start
+pub calls-keep-break : (cs : List Call) → AllFit cs → (ws : List ℕ) → T (wellFormed ws) → T (isBroken (table ws .store))
+    → T (wellFormed (performAll cs ws)) × (table (performAll cs ws) .store .broken ≡ table ws .store .broken)
+unfolding performAll
+calls-keep-break [] fits ws h b = (h, refl)
+calls-keep-break (c ∷ cs) fits ws h b =
+    let e = call-keeps-break c (fits .0) ws h b in
+    let k = calls-keep-break cs (fits .1) (perform c ws .words) (call-formed c (fits .0) ws h) (same-broken (table ws .store) (table (perform c ws .words) .store) e b) in
+    (k .0, k .1 ∙ e)
+
+-- from a failed question on, every held question of the image where it is idle is refused with that break, until start
+module _ (b : ℕ) (ws : List ℕ) (f : Failure) (e : perform (works b) ws .says ≡ toldFailure f) (cs : List Call) (fits : AllFit cs) where
+  abbrev pub later : List ℕ
+  later = performAll cs (perform (works b) ws .words)
+
+  kept : T (wellFormed later) × (table later .store .broken ≡ table (perform (works b) ws .words) .store .broken)
+  kept =
+      calls-keep-break cs fits (perform (works b) ws .words) (call-formed (works b) (omega arith) ws (failed-asked b ws f e .0)) (failed-broken b ws f e)
+
+  pub stays-broken : T (wellFormed later) × (table later .store .broken ≡ breakAfter f (table ws .store)) × T (isBroken (table later .store))
+  stays-broken =
+      (kept .0, kept .1 ∙ failed-fills b ws f e, same-broken (table (perform (works b) ws .words) .store) (table later .store) (kept .1) (failed-broken b ws f e))
+
+  pub held-after-failure : (x y : ℕ) → T (not (isAsked (table later))) → perform (asks true x y) later .says ≡ toldRefusal (brokenBy (breakAfter f (table ws .store)))
+  held-after-failure x y idle =
+      held-refused x y later (stays-broken .0) idle (stays-broken .2) ∙ ap (λ (k : Break). toldRefusal (brokenBy k)) (stays-broken .1)
+
+  pub held-equal-after-failure : (x y : ℕ) → T (not (isAsked (table later))) → perform (asksEqual true x y) later .says ≡ toldRefusal (brokenBy (breakAfter f (table ws .store)))
+  held-equal-after-failure x y idle =
+      held-equal-refused x y later (stays-broken .0) idle (stays-broken .2) ∙ ap (λ (k : Break). toldRefusal (brokenBy k)) (stays-broken .1)
