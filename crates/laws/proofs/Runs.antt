@@ -14,8 +14,8 @@ use Rattle.model.specs.Table.{Pair, Store, Table, tableOf, isAsked}
 use Rattle.model.specs.Image.{header, words, table}
 use Rattle.model.specs.Formed.{wellFormed}
 use Rattle.model.specs.Rules.{rule}
-use Rattle.model.specs.Calls.{Reply, works, perform}
-use Rattle.model.specs.Told.{toldRefusal, toldFailure, toldAnswer}
+use Rattle.model.specs.Calls.{Reply, Turn, refuse, replyOf, onTable, Call, works, turnOf, perform}
+use Rattle.model.specs.Told.{done, toldRefusal, toldFailure, toldAnswer}
 use Rattle.model.specs.declared.Failure.{Failure}
 use Rattle.model.specs.declared.Failure.the-variants as F
 use Rattle.model.specs.declared.Refusal.{Refusal}
@@ -98,3 +98,13 @@ formed-back t h = table-words t (holds t h) (pending-holds t h)
 
 pub read-as : (ws : List ℕ) (t : Table) → T (wellFormed ws) → ws ≡ words t → table ws ≡ t
 read-as ws t h e = ap table e ∙ formed-back t (subst (λ (vs : List ℕ). T (wellFormed vs)) e h)
+
+-- a call that is done found a well formed image
+formed-if : (t : Bool) (ws : List ℕ) (turn : Turn) (l : List ℕ) → replyOf ws (cond t turn (refuse R.BadTable)) .says ≡ done l → T t
+unfolding replyOf
+formed-if true ws turn l e = tt
+formed-if false ws turn l e = let z : _≡_ {A = ℕ} 0 1 = cc in absurd (omega arith)
+
+pub done-formed : (c : Call) (ws l : List ℕ) → perform c ws .says ≡ done l → T (wellFormed ws)
+unfolding perform onTable
+done-formed c ws l e = formed-if (wellFormed ws) ws (turnOf c ws (table ws)) l e
