@@ -291,7 +291,7 @@ broken-since : (s u : Store) (f : Failure) → u .broken ≡ breakAfter f s → 
 unfolding isBroken
 broken-since s u f e = rw e (kind-since (isBroken s) (s .broken) (breakOf f) refl (break-kind f))
 
-same-broken : (s u : Store) → u .broken ≡ s .broken → T (isBroken s) → T (isBroken u)
+pub same-broken : (s u : Store) → u .broken ≡ s .broken → T (isBroken s) → T (isBroken u)
 unfolding isBroken
 same-broken s u e h = rw e h
 
