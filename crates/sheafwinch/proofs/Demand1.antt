@@ -12,11 +12,12 @@ use Rattle.model.proofs.OneToOne.{answer-one-to-one}
 use Rattle.model.specs.declared.Refusal.{Refusal}
 use Rattle.model.specs.declared.Reply.the-variants as Y
 use Rattle.model.specs.declared.Made.the-variants as M
-use Rattle.model.specs.declared.Answer.{Answer}
 use Rattle.model.specs.declared.Answer.the-variants as A
 use Rattle.model.specs.declared.Instalment.{Instalment}
+use Rattle.image.specs.Stores.{capacitiesOf}
 use Rattle.laws.specs.Refusals.{forRoom, KeepsEarlier}
 use Rattle.laws.proofs.Refused.{refused-as-found, start-refused-as-found, work-refused-as-found, work-refused-keeps}
+use Rattle.sheafwinch.proofs.start.Reads as start
 use Rattle.sheafwinch.proofs.make_variable.Reads as make-variable
 use Rattle.sheafwinch.proofs.make_primitive.Reads as make-primitive
 use Rattle.sheafwinch.proofs.make_list.Reads as make-list
@@ -40,6 +41,9 @@ use Rattle.sheafwinch.proofs.abandon.Reads as abandon
 abbrev pub LeavesAll : {K R : Type 0} {A X : K → Type 0} → (Refusal → R) → ((κs : K) → RefT (List ℕ) × A κs → R → RefT (List ℕ) × X κs → Type 0) → Type 0
 LeavesAll {K} {R} {A} {X} refused post =
     (κs : K) (a : RefT (List ℕ) × A κs) (r : Refusal) (e : RefT (List ℕ) × X κs) → post κs a (refused r) e → e .0 .now ≡ a .0 .now
+
+pub start-refused : LeavesAll Y.Refused start.Post
+start-refused κs a r e p = p .1 ∙ start-refused-as-found (a .1 .0) (a .1 .1 .0) (capacitiesOf (a .1 .1 .1 .0)) (a .0 .now) r (sym (p .0))
 
 pub make-variable-refused : LeavesAll M.Refused make-variable.Post
 make-variable-refused κs a r e p = p .1 ∙ refused-as-found makesVariable refl (a .0 .now) r (sym (p .0))

@@ -3,19 +3,18 @@
 -- functions: `a .0 .now` is the image at entry, `a .1 ..` the other arguments, `e .0 .now` the image at exit. Assumes nothing.
 use Prim.Native.Nat.{ℕ, _<_}
 use native.Mathlib.Omega.{arith}
-use mathlib.Core.Path.{_≡_, refl, sym, ap, _∙_, subst}
+use mathlib.Core.Path.{_≡_, refl, sym, ap, _∙_}
 use mathlib.Core.List.{List, [], _∷_}
-use mathlib.Core.Bool.{Bool, true, false, not}
+use mathlib.Core.Bool.{true, false, not}
 use mathlib.Core.Logic.{_↔_}
 use lib.Dec.{T}
-use denote.Ref.{RefT}
 use Rattle.instalments.specs.Whole.{well, broken, Whole}
 use Rattle.model.specs.Format.{wordEnd}
-use Rattle.model.specs.Table.{Pair, _⊑_, Break, Store, Table, tableOf, isAsked, isBroken}
+use Rattle.model.specs.Table.{Pair, _⊑_, Break, Store, tableOf, isAsked, isBroken}
 use Rattle.model.specs.Image.{words, table}
 use Rattle.model.specs.Formed.{wellFormed}
-use Rattle.model.specs.Rules.{rule, breakOf}
-use Rattle.model.specs.Calls.{Reply, Call, perform, brokenBy, equalled, makesVariable, makesPrimitive, makesList, makesLambda, makesAttrset, makesNamed, makesNeg, makesInter, makesUnion, marks, putsBound, enters, exits, setsLevel, asks, asksEqual, works, abandons}
+use Rattle.model.specs.Rules.{rule}
+use Rattle.model.specs.Calls.{Call, perform, brokenBy, equalled, makesVariable, makesPrimitive, makesList, makesLambda, makesAttrset, makesNamed, makesNeg, makesInter, makesUnion, marks, putsBound, enters, exits, setsLevel, asks, asksEqual, works, abandons}
 use Rattle.model.specs.Told.{toldReply, toldAnswer, toldRefusal}
 use Rattle.model.proofs.OneToOne.{reply-one-to-one}
 use Rattle.model.specs.declared.Failure.{Failure}
@@ -23,16 +22,14 @@ use Rattle.model.specs.declared.Refusal.{Refusal}
 use Rattle.model.specs.declared.Refusal.the-variants as R
 use Rattle.model.specs.declared.Reply.{Reply as ReplyOut}
 use Rattle.model.specs.declared.Reply.the-variants as Y
-use Rattle.model.specs.declared.Made.{Made}
 use Rattle.model.specs.declared.Answer.{Answer}
 use Rattle.model.specs.declared.Answer.the-variants as A
 use Rattle.model.specs.declared.Instalment.{Instalment}
 use Rattle.laws.specs.Turns.{storedArgument}
 use Rattle.laws.specs.Refusals.{breakAfter}
 use Rattle.laws.proofs.Calls.{call-formed}
-use Rattle.laws.proofs.Questions.{ask-opens, ask-equal-opens}
 use Rattle.laws.proofs.Runs.{done-formed, read-as}
-use Rattle.laws.proofs.Breaks.{same-broken, call-keeps-break, failed-asked, failed-fills, failed-broken, plain-never-broken, plain-equal-never-broken, held-refused, held-equal-refused, held-refused-exactly, held-equal-refused-exactly}
+use Rattle.laws.proofs.Breaks.{same-broken, call-keeps-break, failed-asked, failed-fills, failed-broken, plain-never-broken, plain-equal-never-broken, held-refused-exactly, held-equal-refused-exactly}
 use Rattle.sheafwinch.proofs.Demand3.{Run, Instalments, run-formed, asked-in-instalments, asked-equal-in-instalments}
 use Rattle.sheafwinch.proofs.make_variable.Reads as make-variable
 use Rattle.sheafwinch.proofs.make_primitive.Reads as make-primitive

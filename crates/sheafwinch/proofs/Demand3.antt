@@ -2,20 +2,20 @@
 -- steps in all and every word are those of the rules run without a pause; while they answer MORE, entries, bounds and visited pairs
 -- are those of the nested rules stopped after that many steps." Over the contract of `work`, and of `ask` and `ask_equal`, which open
 -- the question. `Whole` and `nested` are in crates/instalments/specs. Assumes nothing.
-use Prim.Native.Nat.{ℕ, _+_}
+use Prim.Native.Nat.{ℕ, _+_, _<_}
 use native.Mathlib.Omega.{arith}
 use mathlib.Core.Path.{_≡_, refl, sym, ap, _∙_, subst}
-use mathlib.Core.List.{List, [], _∷_, _++_, reverse}
-use mathlib.Core.Bool.{Bool}
-use lib.Dec.{T}
-use Rattle.instalments.specs.Machine.{total, lacks}
+use mathlib.Core.List.{List, [], _∷_, reverse}
+use mathlib.Core.Bool.{Bool, true, false}
+use lib.Dec.{T, ltb, ltb→lt}
+use borrow.Author.Tests.{ltb-false}
+use Rattle.instalments.specs.Machine.{total}
 use Rattle.instalments.specs.Nested.{stopped, in-turn, nested}
-use Rattle.instalments.specs.Whole.{End, well, broken, Whole}
-use Rattle.model.specs.Table.{Bound, Entry, Pair, _⊑_, Store, Table, tableOf, isAsked}
+use Rattle.instalments.specs.Whole.{End, well, broken, ended, Whole}
+use Rattle.model.specs.Table.{Pair, _⊑_, Store, Table, tableOf, isAsked}
 use Rattle.model.specs.Image.{words, table}
 use Rattle.model.specs.Formed.{wellFormed}
 use Rattle.model.specs.Rules.{rule}
-use Rattle.model.specs.Room.{room}
 use Rattle.model.specs.Calls.{Reply, Call, asks, asksEqual, works, equalled, perform}
 use Rattle.model.specs.Told.{toldAnswer}
 use Rattle.model.specs.declared.Failure.{Failure}
@@ -25,7 +25,8 @@ use Rattle.model.specs.declared.Answer.{Answer}
 use Rattle.model.specs.declared.Answer.the-variants as A
 use Rattle.model.specs.declared.Instalment.{Instalment}
 use Rattle.laws.specs.Demands.{afterSteps, workAll, Demand-3}
-use Rattle.instalments.proofs.Whole.{whole-same}
+use Rattle.instalments.proofs.Whole.{whole-ended, whole-same}
+use Rattle.laws.proofs.Tests.{of-true}
 use Rattle.laws.proofs.Calls.{call-formed}
 use Rattle.laws.proofs.Demands.{image-demand-3}
 use Rattle.laws.proofs.Questions.{ask-demand-3, ask-equal-demand-3}
@@ -182,3 +183,18 @@ module _ {bs cs w x : List ℕ} {n m : ℕ} {s : Store} {ps : List Pair} where
 pub any-budgets : {bs cs v w x : List ℕ} (y z : Answer) {n m : ℕ} → T (wellFormed v) → T (isAsked (table v)) → Ended y → Ended z → Run bs v y n w → Run cs v z m x
     → (y ≡ z) × (n ≡ m) × (w ≡ x)
 any-budgets y z h a i j k l = both y z i j (worked-in-instalments y h a k) (worked-in-instalments z h a l)
+
+-- and MORE is answered only while the steps are fewer than the whole takes
+not-stopped : (k : ℕ) (e : End Store Failure) (u : Store) → ended k e ≡ stopped u → ⊥
+unfolding ended
+not-stopped k (well s) u h = let z : _≡_ {A = ℕ} 0 1 = cc in omega arith
+not-stopped k (broken f s) u h = let z : _≡_ {A = ℕ} 0 1 = cc in omega arith
+
+pub more-only-before : {bs w : List ℕ} {s : Store} {ps : List Pair} {n k : ℕ} {e : End Store Failure} → Instalments bs s ps A.More n w → Whole rule s ps k e → n < k
+more-only-before {n = n} {k = k} {e = e} i whole = before (ltb n k) refl
+  where
+    before : (t : Bool) → ltb n k ≡ t → n < k
+    before true h = ltb→lt n k (of-true (ltb n k) h)
+    before false h =
+        let m = i .to-more refl in
+        absurd (not-stopped k e (m .0) (sym (whole-ended rule whole n (ltb-false n k h)) ∙ m .2))
