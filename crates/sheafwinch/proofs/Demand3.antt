@@ -46,17 +46,17 @@ pub data Run : (budgets before : List ℕ) → Answer → (steps : ℕ) → (aft
       → Run bs (e .0 .now) y n w → Run (a .1 .0 ∷ bs) (a .0 .now) y (x .steps + n) w
 
 -- a run is what the model gives for these budgets
-abbrev pub replyOf : Answer → ℕ → List ℕ → Reply
-replyOf y n w = record { says = toldAnswer y; steps = n; words = w }
+abbrev pub asReply : Answer → ℕ → List ℕ → Reply
+asReply y n w = record { says = toldAnswer y; steps = n; words = w }
 
-same-reply : (r : Reply) (y : Answer) (n : ℕ) (w : List ℕ) → toldAnswer y ≡ r .says → n ≡ r .steps → w ≡ r .words → replyOf y n w ≡ r
+same-reply : (r : Reply) (y : Answer) (n : ℕ) (w : List ℕ) → toldAnswer y ≡ r .says → n ≡ r .steps → w ≡ r .words → asReply y n w ≡ r
 same-reply r y n w e f g = λ i. record { says = e i; steps = f i; words = g i }
 
-after : (y : Answer) {n : ℕ} {w : List ℕ} {r : Reply} (k l : ℕ) → k ≡ l → replyOf y n w ≡ r → replyOf y (k + n) w ≡ afterSteps l r
+after : (y : Answer) {n : ℕ} {w : List ℕ} {r : Reply} (k l : ℕ) → k ≡ l → asReply y n w ≡ r → asReply y (k + n) w ≡ afterSteps l r
 unfolding afterSteps
 after y k l e f = λ i. record { says = f i .says; steps = e i + f i .steps; words = f i .words }
 
-pub run-is : {bs v w : List ℕ} (y : Answer) {n : ℕ} → Run bs v y n w → replyOf y n w ≡ workAll bs v
+pub run-is : {bs v w : List ℕ} (y : Answer) {n : ℕ} → Run bs v y n w → asReply y n w ≡ workAll bs v
 unfolding workAll afterSteps
 run-is _ none = refl
 run-is _ (ends κs a x e {bs = bs} p stops) =
@@ -68,18 +68,18 @@ run-is y (goes-on κs a x e {bs = bs} p more rest) =
 
 -- demand 3 in the model's words, of a run from a well formed image that is asked, whatever it answers
 pub run-demand-3 : {bs v w : List ℕ} (y : Answer) {n : ℕ} → T (wellFormed v) → T (isAsked (table v)) → Run bs v y n w
-    → Demand-3 bs (table v .store) (table v .pending) (replyOf y n w)
+    → Demand-3 bs (table v .store) (table v .pending) (asReply y n w)
 run-demand-3 {bs} {v} y h a run = rw (run-is y run) (image-demand-3 bs v h a)
 
 -- from a question on: ask, done, opens with its pair; ask equal with two, (a, b) worked wholly, then (b, a)
 pub ask-run : {bs w : List ℕ} (y : Answer) {n : ℕ} (κs : _) (a : _) (e : _) → ask.Post κs a Y.Done e → Run bs (e .0 .now) y n w
-    → Demand-3 bs (table (a .0 .now) .store) ((a .1 .1 .0 ⊑ a .1 .1 .1 .0) ∷ []) (replyOf y n w)
+    → Demand-3 bs (table (a .0 .now) .store) ((a .1 .1 .0 ⊑ a .1 .1 .1 .0) ∷ []) (asReply y n w)
 ask-run {bs} y κs a e p run =
     let h = done-formed (asks (a .1 .0) (a .1 .1 .0) (a .1 .1 .1 .0)) (a .0 .now) [] (sym (p .0)) in
     rw (run-is y run, p .1) (ask-demand-3 bs (a .1 .0) (a .1 .1 .0) (a .1 .1 .1 .0) (a .0 .now) h (sym (p .0)))
 
 pub ask-equal-run : {bs w : List ℕ} (y : Answer) {n : ℕ} (κs : _) (a : _) (e : _) → ask-equal.Post κs a Y.Done e → Run bs (e .0 .now) y n w
-    → Demand-3 bs (equalled (a .1 .1 .0) (a .1 .1 .1 .0) (table (a .0 .now) .store)) ((a .1 .1 .1 .0 ⊑ a .1 .1 .0) ∷ (a .1 .1 .0 ⊑ a .1 .1 .1 .0) ∷ []) (replyOf y n w)
+    → Demand-3 bs (equalled (a .1 .1 .0) (a .1 .1 .1 .0) (table (a .0 .now) .store)) ((a .1 .1 .1 .0 ⊑ a .1 .1 .0) ∷ (a .1 .1 .0 ⊑ a .1 .1 .1 .0) ∷ []) (asReply y n w)
 ask-equal-run {bs} y κs a e p run =
     let h = done-formed (asksEqual (a .1 .0) (a .1 .1 .0) (a .1 .1 .1 .0)) (a .0 .now) [] (sym (p .0)) in
     rw (run-is y run, p .1) (ask-equal-demand-3 bs (a .1 .0) (a .1 .1 .0) (a .1 .1 .1 .0) (a .0 .now) h (sym (p .0)))
@@ -97,7 +97,7 @@ pub record Instalments (budgets : List ℕ) (s : Store) (ps : List Pair) (y : An
   pub to-refusal : (r : Refusal) → y ≡ A.Refused r → (u : Store) × (in-turn (nested rule) n s ps ≡ stopped u)
       × (table w .store .entries ≡ u .entries) × (table w .store .bounds ≡ u .bounds) × (table w .store .visited ≡ u .visited)
 
-module _ (bs : List ℕ) (s : Store) (ps : List Pair) (y : Answer) (n : ℕ) (w : List ℕ) (h : T (wellFormed w)) (d : Demand-3 bs s ps (replyOf y n w)) where
+module _ (bs : List ℕ) (s : Store) (ps : List Pair) (y : Answer) (n : ℕ) (w : List ℕ) (h : T (wellFormed w)) (d : Demand-3 bs s ps (asReply y n w)) where
   store-of : (u : Store) (q : List Pair) → w ≡ words (tableOf u q) → table w .store ≡ u
   store-of u q e = ap (λ (t : Table). t .store) (read-as w (tableOf u q) h e)
 
