@@ -112,9 +112,9 @@ module _ (κs : _) (a : _) (x : Instalment) (e : _) (p : work.Post κs a x e) (r
   work-refused-for-room n = rw (p .1 .0, p .1 .1) (work-refused-keeps (a .1 .0) (a .0 .now) r n says)
 
   -- so: on the image as it was, work with a budget of just those steps answers MORE, and leaves the same words
-  pub work-refused-again : forRoom r ≡ true → (λs : _) (b : _) (y : Instalment) (f : _) → work.Post λs b y f → b .0 .now ≡ a .0 .now → b .1 .0 ≡ x .steps
+  pub work-refused-again : forRoom r ≡ true → (ls : _) (b : _) (y : Instalment) (f : _) → work.Post ls b y f → b .0 .now ≡ a .0 .now → b .1 .0 ≡ x .steps
       → (y .answer ≡ A.More) × (y .steps ≡ x .steps) × (f .0 .now ≡ e .0 .now)
-  work-refused-again n λs b y f q image budget =
+  work-refused-again n ls b y f q image budget =
       let k : perform (works (b .1 .0)) (b .0 .now) ≡ record { says = more; steps = x .steps; words = e .0 .now } = rw (image, budget) (work-refused-for-room n .earlier) in (
         answer-one-to-one (y .answer) A.More (q .0 ∙ ap (λ (z : Reply). z .says) k),
         q .1 .0 ∙ ap (λ (z : Reply). z .steps) k,

@@ -161,7 +161,7 @@ pub data Later (v : List ℕ) : List ℕ → Type 0 where
   by-abandon : (κs : _) (a : _) (x : _) (e : _) → abandon.Post κs a x e → Later v (a .0 .now) → Later v (e .0 .now)
 
 -- what a break that is there comes to
-abbrev BreakStays : List ℕ → List ℕ → Type 0
+abbrev pub BreakStays : List ℕ → List ℕ → Type 0
 BreakStays v w = T (wellFormed w) × (table w .store .broken ≡ table v .store .broken) × T (isBroken (table w .store))
 
 next : (c : Call) → storedArgument c < wordEnd → (v u w : List ℕ) → BreakStays v u → w ≡ perform c u .words → BreakStays v w
@@ -200,14 +200,14 @@ module _ (κs : _) (a : _) (x : Instalment) (e : _) (p : work.Post κs a x e) (f
       (l .0, l .1 ∙ k .1, l .2)
 
   -- so every held question, where none is asked, is refused with it
-  pub held-ask-after-failure : (λs : _) (b : _) (y : ReplyOut) (g : _) → ask.Post λs b y g → b .0 .now ≡ w → b .1 .0 ≡ true → T (not (isAsked (table w)))
+  pub held-ask-after-failure : (ls : _) (b : _) (y : ReplyOut) (g : _) → ask.Post ls b y g → b .0 .now ≡ w → b .1 .0 ≡ true → T (not (isAsked (table w)))
       → y ≡ Y.Refused (brokenBy (breakAfter f (table (a .0 .now) .store)))
-  held-ask-after-failure λs b y g q image held idle =
+  held-ask-after-failure ls b y g q image held idle =
       let k = broken-until-start in
-      held-ask-refused λs b y g q held (rw image (k .0)) (rw image idle) .1 (rw image (k .2)) ∙ ap (λ (z : Break). Y.Refused (brokenBy z)) (rw image (k .1))
+      held-ask-refused ls b y g q held (rw image (k .0)) (rw image idle) .1 (rw image (k .2)) ∙ ap (λ (z : Break). Y.Refused (brokenBy z)) (rw image (k .1))
 
-  pub held-ask-equal-after-failure : (λs : _) (b : _) (y : ReplyOut) (g : _) → ask-equal.Post λs b y g → b .0 .now ≡ w → b .1 .0 ≡ true → T (not (isAsked (table w)))
+  pub held-ask-equal-after-failure : (ls : _) (b : _) (y : ReplyOut) (g : _) → ask-equal.Post ls b y g → b .0 .now ≡ w → b .1 .0 ≡ true → T (not (isAsked (table w)))
       → y ≡ Y.Refused (brokenBy (breakAfter f (table (a .0 .now) .store)))
-  held-ask-equal-after-failure λs b y g q image held idle =
+  held-ask-equal-after-failure ls b y g q image held idle =
       let k = broken-until-start in
-      held-ask-equal-refused λs b y g q held (rw image (k .0)) (rw image idle) .1 (rw image (k .2)) ∙ ap (λ (z : Break). Y.Refused (brokenBy z)) (rw image (k .1))
+      held-ask-equal-refused ls b y g q held (rw image (k .0)) (rw image idle) .1 (rw image (k .2)) ∙ ap (λ (z : Break). Y.Refused (brokenBy z)) (rw image (k .1))

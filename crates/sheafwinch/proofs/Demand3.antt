@@ -1,7 +1,7 @@
--- Demand 3: "a question may be worked in instalments. Any list of budgets, up to the first that does not answer MORE: the answer, the
--- steps in all and every word are those of the rules run without a pause; while they answer MORE, entries, bounds and visited pairs
--- are those of the nested rules stopped after that many steps." Over the contract of `work`, and of `ask` and `ask_equal`, which open
--- the question. `Whole` and `nested` are in crates/instalments/specs. Assumes nothing.
+-- Demand 3: "any list of budgets up to the first that does not answer MORE, the answer, the steps in all and every word are those of
+-- `Whole`; while they answer MORE, entries, bounds and visited pairs are those of the nested rules stopped after that many steps."
+-- Over the contract `Post` of `work`, and of `ask` and `ask_equal`, which open the question. `Whole`, the rules without a pause, and
+-- `nested` are in crates/instalments/specs. Assumes nothing.
 use Prim.Native.Nat.{ℕ, _+_, _<_}
 use native.Mathlib.Omega.{arith}
 use mathlib.Core.Path.{_≡_, refl, sym, ap, _∙_, subst}
