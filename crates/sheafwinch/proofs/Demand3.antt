@@ -1,0 +1,200 @@
+-- Demand 3: "any list of budgets up to the first that does not answer MORE, the answer, the steps in all and every word are those of
+-- `Whole`; while they answer MORE, entries, bounds and visited pairs are those of the nested rules stopped after that many steps."
+-- Over the contract `Post` of `work`, and of `ask` and `ask_equal`, which open the question. `Whole`, the rules without a pause, and
+-- `nested` are in crates/instalments/specs. Assumes nothing.
+use Prim.Native.Nat.{ℕ, _+_, _<_}
+use native.Mathlib.Omega.{arith}
+use mathlib.Core.Path.{_≡_, refl, sym, ap, _∙_, subst}
+use mathlib.Core.List.{List, [], _∷_, reverse}
+use mathlib.Core.Bool.{Bool, true, false}
+use lib.Dec.{T, ltb, ltb→lt}
+use borrow.Author.Tests.{ltb-false}
+use Rattle.instalments.specs.Machine.{total}
+use Rattle.instalments.specs.Nested.{stopped, in-turn, nested}
+use Rattle.instalments.specs.Whole.{End, well, broken, ended, Whole}
+use Rattle.model.specs.Table.{Pair, _⊑_, Store, Table, tableOf, isAsked}
+use Rattle.model.specs.Image.{words, table}
+use Rattle.model.specs.Formed.{wellFormed}
+use Rattle.model.specs.Rules.{rule}
+use Rattle.model.specs.Calls.{Reply, Call, asks, asksEqual, works, equalled, perform}
+use Rattle.model.specs.Told.{toldAnswer}
+use Rattle.model.specs.declared.Failure.{Failure}
+use Rattle.model.specs.declared.Refusal.{Refusal}
+use Rattle.model.specs.declared.Reply.the-variants as Y
+use Rattle.model.specs.declared.Answer.{Answer}
+use Rattle.model.specs.declared.Answer.the-variants as A
+use Rattle.model.specs.declared.Instalment.{Instalment}
+use Rattle.laws.specs.Demands.{afterSteps, workAll, Demand-3}
+use Rattle.instalments.proofs.Whole.{whole-ended, whole-same}
+use Rattle.laws.proofs.Tests.{of-true}
+use Rattle.laws.proofs.Calls.{call-formed}
+use Rattle.laws.proofs.Demands.{image-demand-3}
+use Rattle.laws.proofs.Questions.{ask-demand-3, ask-equal-demand-3}
+use Rattle.laws.proofs.Runs.{work-all-stops, work-all-goes-on, work-all-formed, read-as, done-formed}
+use Rattle.sheafwinch.proofs.ask.Reads as ask
+use Rattle.sheafwinch.proofs.ask_equal.Reads as ask-equal
+use Rattle.sheafwinch.proofs.work.Reads as work
+
+-- Calls of work one after the other, each an outcome that its contract allows, with these budgets from the image `before`, going on
+-- while it answers MORE: the last answer, the steps in all, and the image after. Of a call, `a .0 .now` is the image at entry,
+-- `a .1 .0` the budget, `x` what it answers, `e .0 .now` the image at exit.
+pub data Run : (budgets before : List ℕ) → Answer → (steps : ℕ) → (after : List ℕ) → Type 0 where
+  none : {v : List ℕ} → Run [] v A.More 0 v
+  ends : (κs : _) (a : _) (x : Instalment) (e : _) {bs : List ℕ} → work.Post κs a x e → (x .answer ≡ A.More → ⊥)
+      → Run (a .1 .0 ∷ bs) (a .0 .now) (x .answer) (x .steps) (e .0 .now)
+  goes-on : (κs : _) (a : _) (x : Instalment) (e : _) {bs w : List ℕ} {y : Answer} {n : ℕ} → work.Post κs a x e → x .answer ≡ A.More
+      → Run bs (e .0 .now) y n w → Run (a .1 .0 ∷ bs) (a .0 .now) y (x .steps + n) w
+
+-- a run is what the model gives for these budgets
+abbrev pub asReply : Answer → ℕ → List ℕ → Reply
+asReply y n w = record { says = toldAnswer y; steps = n; words = w }
+
+same-reply : (r : Reply) (y : Answer) (n : ℕ) (w : List ℕ) → toldAnswer y ≡ r .says → n ≡ r .steps → w ≡ r .words → asReply y n w ≡ r
+same-reply r y n w e f g = λ i. record { says = e i; steps = f i; words = g i }
+
+after : (y : Answer) {n : ℕ} {w : List ℕ} {r : Reply} (k l : ℕ) → k ≡ l → asReply y n w ≡ r → asReply y (k + n) w ≡ afterSteps l r
+unfolding afterSteps
+after y k l e f = λ i. record { says = f i .says; steps = e i + f i .steps; words = f i .words }
+
+pub run-is : {bs v w : List ℕ} (y : Answer) {n : ℕ} → Run bs v y n w → asReply y n w ≡ workAll bs v
+unfolding workAll afterSteps
+run-is _ none = refl
+run-is _ (ends κs a x e {bs = bs} p stops) =
+    same-reply (perform (works (a .1 .0)) (a .0 .now)) (x .answer) (x .steps) (e .0 .now) (p .0) (p .1 .0) (p .1 .1)
+    ∙ sym (work-all-stops (a .1 .0) bs (a .0 .now) (x .answer) (p .0) stops)
+run-is y (goes-on κs a x e {bs = bs} p more rest) =
+    after y (x .steps) (perform (works (a .1 .0)) (a .0 .now) .steps) (p .1 .0) (run-is y rest ∙ ap (workAll bs) (p .1 .1))
+    ∙ sym (work-all-goes-on (a .1 .0) bs (a .0 .now) (x .answer) (p .0) more)
+
+-- demand 3 in the model's words, of a run from a well formed image that is asked, whatever it answers
+pub run-demand-3 : {bs v w : List ℕ} (y : Answer) {n : ℕ} → T (wellFormed v) → T (isAsked (table v)) → Run bs v y n w
+    → Demand-3 bs (table v .store) (table v .pending) (asReply y n w)
+run-demand-3 {bs} {v} y h a run = rw (run-is y run) (image-demand-3 bs v h a)
+
+-- from a question on: ask, done, opens with its pair; ask equal with two, (a, b) worked wholly, then (b, a)
+pub ask-run : {bs w : List ℕ} (y : Answer) {n : ℕ} (κs : _) (a : _) (e : _) → ask.Post κs a Y.Done e → Run bs (e .0 .now) y n w
+    → Demand-3 bs (table (a .0 .now) .store) ((a .1 .1 .0 ⊑ a .1 .1 .1 .0) ∷ []) (asReply y n w)
+ask-run {bs} y κs a e p run =
+    let h = done-formed (asks (a .1 .0) (a .1 .1 .0) (a .1 .1 .1 .0)) (a .0 .now) [] (sym (p .0)) in
+    rw (run-is y run, p .1) (ask-demand-3 bs (a .1 .0) (a .1 .1 .0) (a .1 .1 .1 .0) (a .0 .now) h (sym (p .0)))
+
+pub ask-equal-run : {bs w : List ℕ} (y : Answer) {n : ℕ} (κs : _) (a : _) (e : _) → ask-equal.Post κs a Y.Done e → Run bs (e .0 .now) y n w
+    → Demand-3 bs (equalled (a .1 .1 .0) (a .1 .1 .1 .0) (table (a .0 .now) .store)) ((a .1 .1 .1 .0 ⊑ a .1 .1 .0) ∷ (a .1 .1 .0 ⊑ a .1 .1 .1 .0) ∷ []) (asReply y n w)
+ask-equal-run {bs} y κs a e p run =
+    let h = done-formed (asksEqual (a .1 .0) (a .1 .1 .0) (a .1 .1 .1 .0)) (a .0 .now) [] (sym (p .0)) in
+    rw (run-is y run, p .1) (ask-equal-demand-3 bs (a .1 .0) (a .1 .1 .0) (a .1 .1 .1 .0) (a .0 .now) h (sym (p .0)))
+
+-- The same in the customer's words: a question that began with the store `s` and the pairs `ps`, in the order in which they are
+-- worked, after a run that answered `y`, took `n` steps and left the words `w`.
+pub record Instalments (budgets : List ℕ) (s : Store) (ps : List Pair) (y : Answer) (n : ℕ) (w : List ℕ) : Type 0 where
+  -- yes, or a failure: the rules without a pause end so, in as many steps, and every word is theirs
+  pub to-yes : y ≡ A.Yes → (u : Store) × Whole rule s ps n (well u) × (w ≡ words (tableOf u []))
+  pub to-failure : (f : Failure) → y ≡ A.Failed f → (u : Store) × Whole rule s ps n (broken f u) × (w ≡ words (tableOf u []))
+  -- MORE: every budget is used, and entries, bounds and visited pairs are those of the nested rules stopped after that many steps
+  pub to-more : y ≡ A.More → (u : Store) × (n ≡ total budgets) × (in-turn (nested rule) n s ps ≡ stopped u)
+      × (table w .store .entries ≡ u .entries) × (table w .store .bounds ≡ u .bounds) × (table w .store .visited ≡ u .visited)
+  -- refused by 5 or 6: the same after the steps that it tells
+  pub to-refusal : (r : Refusal) → y ≡ A.Refused r → (u : Store) × (in-turn (nested rule) n s ps ≡ stopped u)
+      × (table w .store .entries ≡ u .entries) × (table w .store .bounds ≡ u .bounds) × (table w .store .visited ≡ u .visited)
+
+module _ (bs : List ℕ) (s : Store) (ps : List Pair) (y : Answer) (n : ℕ) (w : List ℕ) (h : T (wellFormed w)) (d : Demand-3 bs s ps (asReply y n w)) where
+  store-of : (u : Store) (q : List Pair) → w ≡ words (tableOf u q) → table w .store ≡ u
+  store-of u q e = ap (λ (t : Table). t .store) (read-as w (tableOf u q) h e)
+
+  in-instalments : Instalments bs s (reverse ps) y n w
+  in-instalments = record {
+    to-yes = λ e. let k = d .to-yes (ap toldAnswer e) in (k .0, k .1 .0, k .1 .1);
+    to-failure = λ f e. let k = d .to-failure f (ap toldAnswer e) in (k .0, k .1 .0, k .1 .1);
+    to-more = λ e.
+        let k = d .to-more (ap toldAnswer e) in
+        let z = store-of (k .0) (k .1 .0) (k .1 .1 .1 .1) in
+        (k .0, k .1 .1 .0, k .1 .1 .1 .0, ap (λ (u : Store). u .entries) z, ap (λ (u : Store). u .bounds) z, ap (λ (u : Store). u .visited) z);
+    to-refusal = λ r e.
+        let k = d .to-refusal r (ap toldAnswer e) in
+        let z = store-of (k .0) (k .1 .0) (k .1 .1 .1 .1 .1 .0) in
+        (k .0, k .1 .1 .1 .1 .0, ap (λ (u : Store). u .entries) z, ap (λ (u : Store). u .bounds) z, ap (λ (u : Store). u .visited) z);
+  }
+
+-- a run leaves a well formed image well formed
+pub run-formed : {bs v w : List ℕ} (y : Answer) {n : ℕ} → T (wellFormed v) → Run bs v y n w → T (wellFormed w)
+run-formed {bs} {v} y h run =
+    let e = ap (λ (r : Reply). r .words) (run-is y run) in
+    subst (λ (ws : List ℕ). T (wellFormed ws)) (sym e) (work-all-formed bs v h)
+
+-- demand 3, of any image that is asked; work goes from the end of pending
+pub worked-in-instalments : {bs v w : List ℕ} (y : Answer) {n : ℕ} → T (wellFormed v) → T (isAsked (table v)) → Run bs v y n w
+    → Instalments bs (table v .store) (reverse (table v .pending)) y n w
+worked-in-instalments {bs} {v} {w} y {n} h a run = in-instalments bs (table v .store) (table v .pending) y n w (run-formed y h run) (run-demand-3 y h a run)
+
+-- demand 3, from a question on: `a .1 .1 .0` and `a .1 .1 .1 .0` are its two entries. Ask has one pair
+pub asked-in-instalments : {bs w : List ℕ} (y : Answer) {n : ℕ} (κs : _) (a : _) (e : _) → ask.Post κs a Y.Done e → Run bs (e .0 .now) y n w
+    → Instalments bs (table (a .0 .now) .store) ((a .1 .1 .0 ⊑ a .1 .1 .1 .0) ∷ []) y n w
+asked-in-instalments {bs} {w} y {n} κs a e p run =
+    let c : Call = asks (a .1 .0) (a .1 .1 .0) (a .1 .1 .1 .0) in
+    let h = call-formed c (omega arith) (a .0 .now) (done-formed c (a .0 .now) [] (sym (p .0))) in
+    in-instalments bs (table (a .0 .now) .store) ((a .1 .1 .0 ⊑ a .1 .1 .1 .0) ∷ []) y n w (run-formed y (rw (p .1) h) run) (ask-run y κs a e p run)
+
+-- ask equal has (a, b), wholly, then (b, a), after recording them in equals
+pub asked-equal-in-instalments : {bs w : List ℕ} (y : Answer) {n : ℕ} (κs : _) (a : _) (e : _) → ask-equal.Post κs a Y.Done e → Run bs (e .0 .now) y n w
+    → Instalments bs (equalled (a .1 .1 .0) (a .1 .1 .1 .0) (table (a .0 .now) .store)) ((a .1 .1 .0 ⊑ a .1 .1 .1 .0) ∷ (a .1 .1 .1 .0 ⊑ a .1 .1 .0) ∷ []) y n w
+asked-equal-in-instalments {bs} {w} y {n} κs a e p run =
+    let c : Call = asksEqual (a .1 .0) (a .1 .1 .0) (a .1 .1 .1 .0) in
+    let h = call-formed c (omega arith) (a .0 .now) (done-formed c (a .0 .now) [] (sym (p .0))) in
+    in-instalments bs (equalled (a .1 .1 .0) (a .1 .1 .1 .0) (table (a .0 .now) .store)) ((a .1 .1 .1 .0 ⊑ a .1 .1 .0) ∷ (a .1 .1 .0 ⊑ a .1 .1 .1 .0) ∷ []) y n w
+    (run-formed y (rw (p .1) h) run) (ask-equal-run y κs a e p run)
+
+well-one : {s u : Store} → _≡_ {A = End Store Failure} (well s) (well u) → s ≡ u
+well-one e = cc
+
+broken-one : {f g : Failure} {s u : Store} → _≡_ {A = End Store Failure} (broken f s) (broken g u) → (f ≡ g) × (s ≡ u)
+broken-one e = (cc, cc)
+
+well-broken : {f : Failure} {s u : Store} → _≡_ {A = End Store Failure} (well s) (broken f u) → ⊥
+well-broken e = let z : _≡_ {A = ℕ} 0 1 = cc in omega arith
+
+-- so the budgets do not matter: two runs from one image that both end in yes or a failure have the same answer, steps and words
+abbrev pub Ended : Answer → Type 0
+Ended A.Yes = Unit {0}
+Ended A.More = ⊥
+Ended (A.Failed f) = Unit {0}
+Ended (A.Refused r) = ⊥
+
+module _ {bs cs w x : List ℕ} {n m : ℕ} {s : Store} {ps : List Pair} where
+  both : (y z : Answer) → Ended y → Ended z → Instalments bs s ps y n w → Instalments cs s ps z m x → (y ≡ z) × (n ≡ m) × (w ≡ x)
+  both A.Yes A.Yes i j k l =
+      let p = k .to-yes refl in
+      let q = l .to-yes refl in
+      let e = whole-same rule (p .1) (q .1) in
+      (refl, e .0, p .2 ∙ ap (λ (u : Store). words (tableOf u [])) (well-one (e .1)) ∙ sym (q .2))
+  both A.Yes (A.Failed g) i j k l = absurd (well-broken (whole-same rule (k .to-yes refl .1) (l .to-failure g refl .1) .1))
+  both (A.Failed f) A.Yes i j k l = absurd (well-broken (sym (whole-same rule (k .to-failure f refl .1) (l .to-yes refl .1) .1)))
+  both (A.Failed f) (A.Failed g) i j k l =
+      let p = k .to-failure f refl in
+      let q = l .to-failure g refl in
+      let e = whole-same rule (p .1) (q .1) in
+      (ap A.Failed (broken-one (e .1) .0), e .0, p .2 ∙ ap (λ (u : Store). words (tableOf u [])) (broken-one (e .1) .1) ∙ sym (q .2))
+  both A.Yes A.More i j k l = absurd j
+  both A.Yes (A.Refused r) i j k l = absurd j
+  both (A.Failed f) A.More i j k l = absurd j
+  both (A.Failed f) (A.Refused r) i j k l = absurd j
+  both A.More z i j k l = absurd i
+  both (A.Refused r) z i j k l = absurd i
+
+pub any-budgets : {bs cs v w x : List ℕ} (y z : Answer) {n m : ℕ} → T (wellFormed v) → T (isAsked (table v)) → Ended y → Ended z → Run bs v y n w → Run cs v z m x
+    → (y ≡ z) × (n ≡ m) × (w ≡ x)
+any-budgets y z h a i j k l = both y z i j (worked-in-instalments y h a k) (worked-in-instalments z h a l)
+
+-- and MORE is answered only while the steps are fewer than the whole takes
+not-stopped : (k : ℕ) (e : End Store Failure) (u : Store) → ended k e ≡ stopped u → ⊥
+unfolding ended
+not-stopped k (well s) u h = let z : _≡_ {A = ℕ} 0 1 = cc in omega arith
+not-stopped k (broken f s) u h = let z : _≡_ {A = ℕ} 0 1 = cc in omega arith
+
+pub more-only-before : {bs w : List ℕ} {s : Store} {ps : List Pair} {n k : ℕ} {e : End Store Failure} → Instalments bs s ps A.More n w → Whole rule s ps k e → n < k
+more-only-before {n = n} {k = k} {e = e} i whole = before (ltb n k) refl
+  where
+    before : (t : Bool) → ltb n k ≡ t → n < k
+    before true h = ltb→lt n k (of-true (ltb n k) h)
+    before false h =
+        let m = i .to-more refl in
+        absurd (not-stopped k e (m .0) (sym (whole-ended rule whole n (ltb-false n k h)) ∙ m .2))
