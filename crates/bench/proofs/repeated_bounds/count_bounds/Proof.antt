@@ -1,8 +1,8 @@
--- `built::repeated_bounds::count_bounds` is safe and ends: what is left of the room falls. Assumes nothing.
+-- `bench::repeated_bounds::count_bounds` is safe and ends: what is left of the room falls. Assumes nothing.
 use Prim.Native.Nat.{_≤_, _-_}
 use borrow.Author.Needs.{needs}
-use Rattle.built.proofs.repeated_bounds.count_bounds.Statement.{statement}
-use Rattle.built.proofs.repeated_bounds.count_bounds.Tie as tie
+use Rattle.bench.proofs.repeated_bounds.count_bounds.Statement.{statement}
+use Rattle.bench.proofs.repeated_bounds.count_bounds.Tie as tie
 
 abbrev Inv-loop : tie.InvT-loop
 Inv-loop words n₀ n = n ≤ 36
