@@ -10,6 +10,7 @@ use crate::shapes::room;
 use telling::ALL;
 use telling::print;
 use telling::print_instalment;
+use telling::print_pair;
 use telling::print_question;
 use telling::print_steps;
 use telling::print_work;
@@ -29,19 +30,16 @@ const FURTHER: u32 = 4;
 // How many words the image has.
 const WORDS: usize = 883;
 
-// The check in instalments, without a pause, and begun again.
+// The check in instalments, on a copy of the image without a pause, and on another begun again.
 pub fn print_check() {
     let mut words = room();
     make_relays(&mut words);
     print_shapes(&words);
     sheafwinch::ask(&mut words, false, REQUEST, FIRST_RELAY);
     let mut whole = words;
-    print(b"Does it fit the first relay, (3,4)? In instalments of 10 steps: ");
-    let first = print_part(&mut words);
     let mut again = words;
-    print(b"\nTimed out. Later it goes on where it stopped: ");
-    print_rest(&mut words, first);
-    print(b"\nA copy of the image worked without a pause: ");
+    print_parts(&mut words);
+    print(b"A copy of the image worked without a pause: ");
     print_work(&NAMES, &mut whole, ALL);
     print_compared(&words, &whole);
     print_again(&mut again);
@@ -84,6 +82,16 @@ fn print_shapes(words: &[u32]) {
     );
 }
 
+// The first instalment, and the further ones.
+fn print_parts(words: &mut [u32]) {
+    print(b"Does it fit the first relay, ");
+    print_pair(REQUEST, FIRST_RELAY);
+    print(b"? In instalments of 10 steps: ");
+    let first = print_part(words);
+    print(b"\nTimed out. Later it goes on where it stopped: ");
+    print_rest(words, first);
+}
+
 // An instalment, told; its steps.
 fn print_part(words: &mut [u32]) -> u32 {
     let done = sheafwinch::work(words, BUDGET);
@@ -101,7 +109,7 @@ fn print_rest(words: &mut [u32], first: u32) {
         n += 1;
     }
     print_steps(steps);
-    print(b" in all");
+    print(b" in all\n");
 }
 
 // Whether both images are the same.
@@ -127,6 +135,7 @@ fn same(words: &[u32; 883], whole: &[u32; 883]) -> bool {
 
 // What the Rust does after the first instalment: it asks anew in the table half changed.
 fn print_again(words: &mut [u32]) {
+    sheafwinch::work(words, BUDGET);
     sheafwinch::abandon(words);
     print(b"A copy given up at the time-out and asked again, ");
     print_question(&NAMES, words, false, REQUEST, FIRST_RELAY);

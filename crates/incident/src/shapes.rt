@@ -118,11 +118,7 @@ fn print_fields(words: &[u32], a: Attrset) {
 // A field record.
 fn print_field(words: &[u32], n: u32) {
     match sheafwinch::record(words, FIELDS, n) {
-        Record::Field {
-            name,
-            entry,
-            optional,
-        } => print_named(words, name, entry),
+        Record::Field { name, entry, .. } => print_named(words, name, entry),
         _ => print(b"ANOTHER RECORD"),
     }
 }
@@ -141,7 +137,7 @@ fn print_named(words: &[u32], name: u32, entry: u32) {
 fn print_type(e: Entry) {
     match e {
         Entry::Primitive(p) => print_primitive(p),
-        Entry::Variable { level } => print(b"a variable"),
+        Entry::Variable { .. } => print(b"a variable"),
         _ => print(b"ANOTHER KIND"),
     }
 }

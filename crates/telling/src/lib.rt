@@ -65,7 +65,7 @@ pub fn print_steps(steps: u32) {
 }
 
 // What work answers.
-pub fn print_answer(list: &[u8], answer: Answer) {
+fn print_answer(list: &[u8], answer: Answer) {
     match answer {
         Answer::Yes => print(b"yes"),
         Answer::More => print(b"MORE"),
