@@ -1,7 +1,5 @@
 // The bench table's image with one word changed: a call refuses it with 1 and leaves every word, or takes it.
 // All words past a count and all words of the layout are tried, and others at random.
-use crate::bench_table::make_table;
-use crate::bench_table::room;
 use crate::copies::copied;
 use crate::copies::same;
 use crate::print;
@@ -9,6 +7,8 @@ use crate::print_number;
 use crate::print_size;
 use crate::random_words;
 use crate::random_words::next;
+use bench_table::make_table;
+use bench_table::room;
 use model::EntryRead;
 use model::Refusal;
 use model::Reply;

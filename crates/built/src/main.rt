@@ -1,21 +1,19 @@
-// What the calls build, printed: the words of a table, what a bound put twice adds, what full regions and too deep an entry answer,
-// and what words that are no image answer.
+// What the calls build, printed: the words of a table, what full regions and too deep an entry answer, and what words that are no
+// image answer.
 mod answers;
-mod bench_table;
 mod changed_words;
 mod copies;
 mod depth;
 mod full_regions;
 mod random_words;
-mod repeated_bounds;
 mod script;
+mod table_words;
 
 use libc::STDOUT_FILENO;
 ghost use mathlib.Core.Path.{_≡_};
 
 fn main() {
-    bench_table::print_table();
-    repeated_bounds::print_counts();
+    table_words::print_table();
     full_regions::print_lines();
     depth::print_lines();
     random_words::print_counts();

@@ -1,9 +1,9 @@
--- `built::bench_table::print_words` is safe and ends: what is left of the words falls. Assumes nothing.
+-- `built::table_words::print_words` is safe and ends: what is left of the words falls. Assumes nothing.
 use Prim.Native.Nat.{_≤_, _-_}
 use lib.ListN.{length}
 use borrow.Author.Needs.{needs}
-use Rattle.built.proofs.bench_table.print_words.Statement.{statement}
-use Rattle.built.proofs.bench_table.print_words.Tie as tie
+use Rattle.built.proofs.table_words.print_words.Statement.{statement}
+use Rattle.built.proofs.table_words.print_words.Tie as tie
 
 abbrev Inv-loop : tie.InvT-loop
 Inv-loop words at₀ at = at ≤ length words

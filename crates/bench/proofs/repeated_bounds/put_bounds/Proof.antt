@@ -1,10 +1,10 @@
--- `built::repeated_bounds::put_bounds` is safe and ends: the words keep their length, and what is left of the bounds falls. Assumes nothing.
+-- `bench::repeated_bounds::put_bounds` is safe and ends: the words keep their length, and what is left of the bounds falls. Assumes nothing.
 use Prim.Native.Nat.{_≤_, _-_}
 use mathlib.Core.Path.{_≡_}
 use lib.ListN.{length}
 use borrow.Author.Needs.{needs}
-use Rattle.built.proofs.repeated_bounds.put_bounds.Statement.{statement}
-use Rattle.built.proofs.repeated_bounds.put_bounds.Tie as tie
+use Rattle.bench.proofs.repeated_bounds.put_bounds.Statement.{statement}
+use Rattle.bench.proofs.repeated_bounds.put_bounds.Tie as tie
 
 abbrev Inv-loop : tie.InvT-loop
 Inv-loop words₀ bound₀ words bound = (bound ≤ 33) × (length words ≡ length words₀)

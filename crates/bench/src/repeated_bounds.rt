@@ -1,56 +1,54 @@
 // The lower bounds of a variable, put again: one that is there adds nothing while there are at most 32, and is added where there are more.
-use crate::print;
-use crate::print_number;
-use model::Record;
+use crate::left::BOUNDS;
+use crate::left::count;
+use telling::print;
+use telling::print_number;
 ghost use mathlib.Core.Path.{_≡_};
 ghost use lib.ListN.{length};
 
-// The variable, the side, and the region of the bounds.
+// The variable, and the side.
 const VARIABLE: u32 = 0;
 
 const LOWER: u32 = 0;
-
-const BOUNDS: u32 = 3;
-
-// How many bounds the image takes.
-const BOUNDS_ROOM: u32 = 36;
 
 // How many bounds there are with bounds 1 to 32, and after each further one.
 pub fn print_counts() {
     let mut words = room();
     make_entries(&mut words);
     put_bounds(&mut words);
-    print(b"Bounds 1 to 32 put: ");
-    print_bounds(&words);
+    print(b"Lower bounds 1 to 32 put: ");
+    print_number(count(&words, BOUNDS));
+    print(b" bounds");
     print_put(&mut words, 5);
     print_put(&mut words, 33);
     print_put(&mut words, 5);
+    print(b"\n");
 }
 
 // The words of the image, before it is started.
-fn room() -> [u32; 479]
-    ensures { λ r. ⌜ 479 ≡ length r ⌝ }
+fn room() -> [u32; 367]
+    ensures { λ r. ⌜ 367 ≡ length r ⌝ }
 {
-    [7u32; 479]
+    [7u32; 367]
 }
 
 // How many records each region takes.
 fn capacities() -> image::Capacities {
     image::Capacities {
-        entries: 40,
-        fields: 8,
-        bounds: BOUNDS_ROOM,
-        visited: 8,
-        pending: 8,
-        equals: 4,
+        entries: 34,
+        fields: 0,
+        bounds: 34,
+        visited: 0,
+        pending: 0,
+        equals: 0,
     }
 }
 
-// A variable, and 34 primitives.
+// A variable, and 33 primitives.
 fn make_entries(words: &mut [u32]) {
     sheafwinch::start(words, 3, 1, capacities());
     sheafwinch::make_variable(words);
-    let mut left: u32 = 34;
+    let mut left: u32 = 33;
     while left > 0 {
         sheafwinch::make_primitive(words, 0);
         left -= 1;
@@ -69,34 +67,8 @@ fn put_bounds(words: &mut [u32]) {
 // Puts a lower bound, and tells how many there are then.
 fn print_put(words: &mut [u32], bound: u32) {
     sheafwinch::put_bound(words, VARIABLE, LOWER, bound);
-    print(b"Then ");
+    print(b"; then ");
     print_number(bound);
     print(b": ");
-    print_bounds(words);
-}
-
-// How many bounds there are.
-fn print_bounds(words: &[u32]) {
-    print_number(count_bounds(words));
-    print(b"\n");
-}
-
-// The first number that no bound has.
-fn count_bounds(words: &[u32]) -> u32 {
-    let mut n = 0;
-    while n < BOUNDS_ROOM {
-        if !is_bound(words, n) {
-            return n;
-        }
-        n += 1;
-    }
-    n
-}
-
-// Whether there is a bound n.
-fn is_bound(words: &[u32], n: u32) -> bool {
-    match sheafwinch::record(words, BOUNDS, n) {
-        Record::Refused(_) => false,
-        _ => true,
-    }
+    print_number(count(words, BOUNDS));
 }

@@ -1,9 +1,9 @@
--- `built::repeated_bounds::make_entries` is safe and ends: the words keep their length, and what is left to make falls. Assumes nothing.
+-- `bench::repeated_bounds::make_entries` is safe and ends: the words keep their length, and what is left to make falls. Assumes nothing.
 use mathlib.Core.Path.{_≡_}
 use lib.ListN.{length}
 use borrow.Author.Needs.{needs}
-use Rattle.built.proofs.repeated_bounds.make_entries.Statement.{statement}
-use Rattle.built.proofs.repeated_bounds.make_entries.Tie as tie
+use Rattle.bench.proofs.repeated_bounds.make_entries.Statement.{statement}
+use Rattle.bench.proofs.repeated_bounds.make_entries.Tie as tie
 
 abbrev Inv-loop : tie.InvT-loop
 Inv-loop words₀ left₀ words left = length words ≡ length words₀

@@ -1,20 +1,20 @@
--- `built::repeated_bounds::count_bounds` is safe and ends: what is left of the room falls. Assumes nothing.
+-- `bench::left::count` is safe and ends: the records that are tried are below 40, and what is left of them falls. Assumes nothing.
 use Prim.Native.Nat.{_≤_, _-_}
 use borrow.Author.Needs.{needs}
-use Rattle.built.proofs.repeated_bounds.count_bounds.Statement.{statement}
-use Rattle.built.proofs.repeated_bounds.count_bounds.Tie as tie
+use Rattle.bench.proofs.left.count.Statement.{statement}
+use Rattle.bench.proofs.left.count.Tie as tie
 
 abbrev Inv-loop : tie.InvT-loop
-Inv-loop words n₀ n = n ≤ 36
+Inv-loop words region n₀ n = n ≤ 40
 
 abbrev μ-loop : tie.MeasureT-loop
-μ-loop words n₀ n = 36 - n
+μ-loop words region n₀ n = 40 - n
 
 loop-holds : tie.Need-loop-holds Inv-loop μ-loop
 loop-holds c = search needs
 
-is-bound-requires : tie.Need-is-bound-requires Inv-loop μ-loop
-is-bound-requires c κs = search needs
+is-record-requires : tie.Need-is-record-requires Inv-loop μ-loop
+is-record-requires c κs = search needs
 
 returns : tie.Need-returns Inv-loop μ-loop
 returns c = search needs
@@ -31,14 +31,14 @@ loop-again c = search needs
 returns-2 : tie.Need-returns-2 Inv-loop μ-loop
 returns-2 c = search needs
 
-pub count-bounds-spec : {M : Type 1} → statement M
-count-bounds-spec =
+pub count-spec : {M : Type 1} → statement M
+count-spec =
     tie.close
     (tie.spec
     Inv-loop
     μ-loop
     loop-holds
-    is-bound-requires
+    is-record-requires
     returns
     add-n
     loop-less

@@ -1,46 +1,45 @@
-// The bench table of document 01, made by the calls, and the words of its image.
-// proofs/Words.antt says that the model makes the same words.
-use crate::print;
-use crate::print_number;
+// The bench table of document 01, made by the calls.
 use model::Dynamic;
 ghost use mathlib.Core.Path.{_≡_};
 ghost use lib.ListN.{length};
 
-// The table's words, 16 to a line.
-pub fn print_table() {
-    print(b"The bench table's words:");
-    let mut words = room();
-    make_table(&mut words);
-    print_words(&words);
-    print(b"\n");
-}
+// Its names `__functor`, `x`, `y`: their count, the offsets, and the bytes.
+pub const NAMES: [u8; 21] = *b"\x03\0\0\0\x09\0\x0A\0\x0B\0__functorxy";
 
-// The words of an image with the bench's capacities, before it is started.
+// How many entries the image takes, where nothing else is said.
+const ENTRIES: u32 = 24;
+
+// The words of the image, before it is started.
 pub fn room() -> [u32; 283]
     ensures { λ r. ⌜ 283 ≡ length r ⌝ }
 {
     [7u32; 283]
 }
 
+// The table, from nothing.
+pub fn make_table(words: &mut [u32]) {
+    make_with(words, ENTRIES);
+}
+
+// The table in an image that takes so many entries, 7 words for each of them.
+pub fn make_with(words: &mut [u32], entries: u32) {
+    sheafwinch::start(words, 3, 1, capacities(entries));
+    make_primitives(words);
+    make_others(words);
+    make_closed(words);
+    make_last(words);
+}
+
 // How many records each region takes.
-fn capacities() -> image::Capacities {
+fn capacities(entries: u32) -> image::Capacities {
     image::Capacities {
-        entries: 24,
+        entries: entries,
         fields: 8,
         bounds: 8,
         visited: 8,
         pending: 8,
         equals: 4,
     }
-}
-
-// The table, from nothing.
-pub fn make_table(words: &mut [u32]) {
-    sheafwinch::start(words, 3, 1, capacities());
-    make_primitives(words);
-    make_others(words);
-    make_closed(words);
-    make_last(words);
 }
 
 // Entries 0 Int, 1 Number, 2 Float, 3 String.
@@ -76,23 +75,4 @@ fn make_last(words: &mut [u32]) {
     sheafwinch::make_attrset(words, &functor[0..0], true, Dynamic::Absent);
     sheafwinch::make_attrset(words, &functor, false, Dynamic::Absent);
     sheafwinch::make_inter(words, 4, 3);
-}
-
-// All words in order.
-fn print_words(words: &[u32]) {
-    let mut at = 0;
-    while at < words.len() {
-        print_break(at);
-        print_number(words[at]);
-        at += 1;
-    }
-}
-
-// What stands before a word: a line's first begins it.
-fn print_break(at: usize) {
-    if at % 16 == 0 {
-        print(b"\n");
-    } else {
-        print(b" ");
-    }
 }
