@@ -1,7 +1,10 @@
-// What a call answers, printed short: a number that was made, `ok`, or a refusal's number, where a full region gives its own too.
+// What a call answers, printed short: a number that was made, `ok`, work's answer, or a refusal's number, where a full region gives
+// its own too.
 // A call that is refused must leave every word; one that does not is told as `CHANGED`.
 use crate::print;
 use crate::print_number;
+use model::Answer;
+use model::Instalment;
 use model::Made;
 use model::Refusal;
 use model::Reply;
@@ -10,6 +13,9 @@ use model::Reply;
 pub enum Told {
     Number(u32),
     Done,
+    Yes,
+    More,
+    Failed,
     Refused(Refusal),
 }
 
@@ -29,12 +35,26 @@ pub fn of_reply(reply: Reply) -> Told {
     }
 }
 
+// What work answers.
+pub fn of_instalment(instalment: Instalment) -> Told {
+    let answer = instalment.answer;
+    match answer {
+        Answer::Yes => Told::Yes,
+        Answer::More => Told::More,
+        Answer::Failed(_) => Told::Failed,
+        Answer::Refused(r) => Told::Refused(r),
+    }
+}
+
 // The answer, and whether the words were kept where it is a refusal.
 pub fn print_told(told: Told, is_same: bool) {
     print(b" ");
     match told {
         Told::Number(n) => print_number(n),
         Told::Done => print(b"ok"),
+        Told::Yes => print(b"yes"),
+        Told::More => print(b"MORE"),
+        Told::Failed => print(b"FAILED"),
         Told::Refused(r) => print_refused(r, is_same),
     }
 }
@@ -52,6 +72,8 @@ fn print_refusal(r: Refusal) {
     match r {
         Refusal::BadTable => print(b"r1"),
         Refusal::BadNumber => print(b"r2"),
+        Refusal::Busy => print(b"r3"),
+        Refusal::Idle => print(b"r4"),
         Refusal::NoRoom(region) => print_room(region),
         Refusal::TooDeep => print(b"r6"),
         _ => print(b"ANOTHER"),

@@ -1,5 +1,5 @@
 // A small script of calls at every capacity from 0 to what it needs: of one region while the others have room, then of several.
-// Visited, pending and equals are not filled: only ask and work put records there, and these are not in code yet.
+// Visited, pending and equals are filled by questions: full_questions.rt.
 use crate::print;
 use crate::print_number;
 use crate::script;

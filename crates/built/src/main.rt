@@ -4,6 +4,7 @@ mod answers;
 mod changed_words;
 mod copies;
 mod depth;
+mod full_questions;
 mod full_regions;
 mod random_words;
 mod script;
@@ -15,6 +16,7 @@ ghost use mathlib.Core.Path.{_≡_};
 fn main() {
     table_words::print_table();
     full_regions::print_lines();
+    full_questions::print_lines();
     depth::print_lines();
     random_words::print_counts();
     changed_words::print_refused();

@@ -1,5 +1,6 @@
 // The calls of the small scripts by number, and what each answers. A call that is refused is held to the words that stood before it.
 use crate::answers::Told;
+use crate::answers::of_instalment;
 use crate::answers::of_made;
 use crate::answers::of_reply;
 use crate::answers::print_told;
@@ -31,12 +32,13 @@ fn attempt(words: &mut [u32], which: u32) {
     print_told(told, same(&before, words));
 }
 
-// Calls 0 to 13 fill regions, 14 to 18 go after a chain of unions.
+// Calls 0 to 13 fill regions, 14 to 18 go after a chain of unions, 19 to 30 ask and work.
 fn call(words: &mut [u32], which: u32) -> Told {
     match which {
         0..=7 => make(words, which),
         8..=13 => put(words, which),
-        _ => deepen(words, which),
+        14..=18 => deepen(words, which),
+        _ => question(words, which),
     }
 }
 
@@ -86,5 +88,16 @@ fn deepen(words: &mut [u32], which: u32) -> Told {
         16 => of_made(sheafwinch::make_named(words, LAST_UNION, 0)),
         17 => of_made(sheafwinch::make_named(words, NAMED, 0)),
         _ => of_made(sheafwinch::make_neg(words, NAMED)),
+    }
+}
+
+// The variable equal to Int, and lambda(Number, Int) under lambda(Int, Number): asked, worked step by step, given up.
+fn question(words: &mut [u32], which: u32) -> Told {
+    match which {
+        19 => of_reply(sheafwinch::ask_equal(words, false, 2, 0)),
+        24 => of_reply(sheafwinch::abandon(words)),
+        25 => of_reply(sheafwinch::ask(words, false, 3, 4)),
+        30 => of_reply(sheafwinch::abandon(words)),
+        _ => of_instalment(sheafwinch::work(words, 1)),
     }
 }
