@@ -1,0 +1,424 @@
+// Which rule worked a visited pair, told from its two entries as they stand: the first that fits, in 01's order. Entries keep their
+// kinds and components, so that a rule tells the same after the question as at its step.
+use crate::dumped::Node;
+use crate::dumped::node;
+use crate::dumped::triple;
+use crate::tables::word;
+use crate::tally::add;
+use model::Disjointness;
+ghost use Prim.Native.Nat.{_≤_};
+
+// Kinds.
+const VARIABLE: u32 = 0;
+
+const PRIMITIVE: u32 = 1;
+
+const LIST: u32 = 2;
+
+const LAMBDA: u32 = 3;
+
+const ATTRSET: u32 = 4;
+
+const NAMED: u32 = 5;
+
+const NEG: u32 = 6;
+
+const INTER: u32 = 7;
+
+const UNION: u32 = 8;
+
+// Primitives.
+const INT: u32 = 2;
+
+const FLOAT: u32 = 3;
+
+const NUMBER: u32 = 7;
+
+// The region of field records, and where the header has the functor word.
+const FIELDS: u32 = 2;
+
+const FUNCTOR: usize = 8;
+
+// How deep members are looked for.
+const DEPTH: u32 = 100;
+
+// Where the tally has each rule.
+const VARIABLE_VARIABLE: usize = 24;
+
+const VARIABLE_CONCRETE: usize = 25;
+
+const CONCRETE_VARIABLE: usize = 26;
+
+const NAMED_LEFT: usize = 27;
+
+const NAMED_RIGHT: usize = 28;
+
+const LAMBDAS: usize = 29;
+
+const LISTS: usize = 30;
+
+const ATTRSETS: usize = 31;
+
+const EQUAL_PRIMITIVES: usize = 32;
+
+const UNDER_NUMBER: usize = 33;
+
+const NEG_NEG: usize = 34;
+
+const NEG_DISJOINT: usize = 35;
+
+const NEG_MISMATCH: usize = 36;
+
+const INTER_RIGHT: usize = 37;
+
+const UNION_LEFT: usize = 38;
+
+const INTER_BOTH: usize = 39;
+
+const INTER_DISJOINT: usize = 40;
+
+const INTER_SUP: usize = 41;
+
+const INTER_NEW: usize = 42;
+
+const UNION_VARIABLES: usize = 43;
+
+const UNION_COMPATIBLE: usize = 44;
+
+const UNION_VARIABLE: usize = 45;
+
+const UNION_DISJOINT: usize = 46;
+
+const UNION_OTHER: usize = 47;
+
+const UNION_KIND: usize = 48;
+
+const UNION_BOTH: usize = 49;
+
+const FUNCTOR_LAMBDA: usize = 52;
+
+const MISMATCH: usize = 53;
+
+const FIELD_SAME: usize = 54;
+
+const FIELD_DYNAMIC: usize = 55;
+
+const FIELD_OPEN: usize = 56;
+
+const FIELD_OPTIONAL: usize = 57;
+
+const FIELD_MISSING: usize = 58;
+
+const DYNAMICS: usize = 59;
+
+// Counts the rule of a pair, and of attrsets how sup's fields are met.
+pub fn count(words: &[u32], tally: &mut [u32; 64], sub: u32, sup: u32) {
+    let a = node(words, sub);
+    let b = node(words, sup);
+    let rule = rule_of(words, sub, sup, a, b);
+    add(tally, rule, 1);
+    if rule == ATTRSETS {
+        count_fields(words, tally, a, b);
+    }
+}
+
+// The rule, where a variable or a named entry is on either side.
+fn rule_of(words: &[u32], sub: u32, sup: u32, a: Node, b: Node) -> usize {
+    if a.kind == VARIABLE {
+        return if b.kind == VARIABLE { VARIABLE_VARIABLE } else { VARIABLE_CONCRETE };
+    }
+    if b.kind == VARIABLE {
+        return CONCRETE_VARIABLE;
+    }
+    if a.kind == NAMED {
+        return NAMED_LEFT;
+    }
+    if b.kind == NAMED {
+        return NAMED_RIGHT;
+    }
+    if a.kind == b.kind {
+        return like(words, sub, sup, a, b);
+    }
+    if b.kind == NEG {
+        return under_neg(words, sub, b.x, a, b, sup);
+    }
+    other(words, sub, sup, a, b)
+}
+
+// The rule of two entries of one kind.
+fn like(words: &[u32], sub: u32, sup: u32, a: Node, b: Node) -> usize {
+    match a.kind {
+        1 => primitives(a.x, b.x),
+        2 => LISTS,
+        3 => LAMBDAS,
+        4 => ATTRSETS,
+        6 => NEG_NEG,
+        _ => other(words, sub, sup, a, b),
+    }
+}
+
+// Of two primitives.
+fn primitives(a: u32, b: u32) -> usize {
+    if a == b {
+        return EQUAL_PRIMITIVES;
+    }
+    if is_under(a, b) { UNDER_NUMBER } else { MISMATCH }
+}
+
+// Whether a primitive is Int or Float, and the other Number.
+fn is_under(a: u32, b: u32) -> bool {
+    if b != NUMBER {
+        return false;
+    }
+    (a == INT) | (a == FLOAT)
+}
+
+// Of an entry under a negation.
+fn under_neg(words: &[u32], sub: u32, n: u32, a: Node, b: Node, sup: u32) -> usize {
+    if a.kind == INTER {
+        return other(words, sub, sup, a, b);
+    }
+    if a.kind == UNION {
+        return other(words, sub, sup, a, b);
+    }
+    if is_disjoint(words, sub, n) { NEG_DISJOINT } else { NEG_MISMATCH }
+}
+
+// Whether two entries are disjoint, which no variable is.
+fn is_disjoint(words: &[u32], a: u32, b: u32) -> bool {
+    match sheafwinch::disjoint(words, a, b) {
+        Disjointness::Disjoint => true,
+        _ => false,
+    }
+}
+
+// The rules after those.
+fn other(words: &[u32], sub: u32, sup: u32, a: Node, b: Node) -> usize {
+    if b.kind == INTER {
+        return INTER_RIGHT;
+    }
+    if a.kind == UNION {
+        return UNION_LEFT;
+    }
+    if a.kind == INTER {
+        return inter_left(words, a.x, a.y, sup);
+    }
+    if b.kind == UNION {
+        return union_right(words, sub, a, b.x, b.y);
+    }
+    if is_functor(words, a, b) { FUNCTOR_LAMBDA } else { MISMATCH }
+}
+
+// Of an intersection on the left.
+fn inter_left(words: &[u32], x: u32, y: u32, sup: u32) -> usize {
+    let is_x = is_chosen(words, x, y);
+    let is_y = is_chosen(words, y, x);
+    if is_x == is_y {
+        return INTER_BOTH;
+    }
+    if is_x { inter_one(words, y, sup) } else { inter_one(words, x, sup) }
+}
+
+// Whether a side is chosen.
+fn is_chosen(words: &[u32], side: u32, other: u32) -> bool {
+    if is_variable(words, side) {
+        return true;
+    }
+    if holds_variable(words, other, DEPTH) {
+        return false;
+    }
+    holds_variable(words, side, DEPTH)
+}
+
+// Whether an entry is a variable.
+fn is_variable(words: &[u32], n: u32) -> bool {
+    node(words, n).kind == VARIABLE
+}
+
+// Whether it leads to one through inter and named.
+fn holds_variable(words: &[u32], n: u32, depth: u32) -> bool {
+    let e = node(words, n);
+    if depth == 0 {
+        return false;
+    }
+    if e.kind == VARIABLE {
+        return true;
+    }
+    if e.kind == NAMED {
+        return holds_variable(words, e.x, depth - 1);
+    }
+    if e.kind != INTER {
+        return false;
+    }
+    if holds_variable(words, e.x, depth - 1) {
+        return true;
+    }
+    holds_variable(words, e.y, depth - 1)
+}
+
+// With one side chosen, d the other.
+fn inter_one(words: &[u32], d: u32, sup: u32) -> usize {
+    if member_disjoint(words, d, sup, DEPTH) {
+        return INTER_DISJOINT;
+    }
+    if has_member(words, sup, negation_of(words, d), DEPTH) { INTER_SUP } else { INTER_NEW }
+}
+
+// Whether d, or a member of it through inter, is disjoint from sup.
+fn member_disjoint(words: &[u32], d: u32, sup: u32, depth: u32) -> bool {
+    let e = node(words, d);
+    if depth == 0 {
+        return false;
+    }
+    if is_disjoint(words, d, sup) {
+        return true;
+    }
+    if e.kind != INTER {
+        return false;
+    }
+    if member_disjoint(words, e.x, sup, depth - 1) {
+        return true;
+    }
+    member_disjoint(words, e.y, sup, depth - 1)
+}
+
+// The number of d's negation: the cached one, or what d negates.
+fn negation_of(words: &[u32], d: u32) -> u32 {
+    let e = node(words, d);
+    if 0 < e.negation {
+        return e.negation - 1;
+    }
+    e.x
+}
+
+// Whether an entry is m, or has m as a member through union and named.
+fn has_member(words: &[u32], n: u32, m: u32, depth: u32) -> bool {
+    let e = node(words, n);
+    if depth == 0 {
+        return false;
+    }
+    if n == m {
+        return true;
+    }
+    if e.kind == NAMED {
+        return has_member(words, e.x, m, depth - 1);
+    }
+    if e.kind != UNION {
+        return false;
+    }
+    if has_member(words, e.x, m, depth - 1) {
+        return true;
+    }
+    has_member(words, e.y, m, depth - 1)
+}
+
+// Of a union on the right.
+fn union_right(words: &[u32], sub: u32, a: Node, x: u32, y: u32) -> usize {
+    let is_x = is_variable(words, x);
+    let is_y = is_variable(words, y);
+    if is_x & is_y {
+        return UNION_VARIABLES;
+    }
+    if is_x {
+        return union_one(words, a, y);
+    }
+    if is_y {
+        return union_one(words, a, x);
+    }
+    union_none(words, sub, a, x, y)
+}
+
+// With one variable, n the other side.
+fn union_one(words: &[u32], a: Node, n: u32) -> usize {
+    if is_compatible(words, a, node(words, n)) { UNION_COMPATIBLE } else { UNION_VARIABLE }
+}
+
+// Whether an entry is compatible with a concrete one.
+fn is_compatible(words: &[u32], a: Node, b: Node) -> bool {
+    if b.kind == NAMED {
+        return true;
+    }
+    if a.kind == b.kind {
+        return true;
+    }
+    is_functor(words, a, b)
+}
+
+// With no variable.
+fn union_none(words: &[u32], sub: u32, a: Node, x: u32, y: u32) -> usize {
+    let far_x = is_disjoint(words, sub, x);
+    let far_y = is_disjoint(words, sub, y);
+    if far_x & far_y {
+        return UNION_DISJOINT;
+    }
+    if far_x | far_y {
+        return UNION_OTHER;
+    }
+    let like_x = a.kind == node(words, x).kind;
+    let like_y = a.kind == node(words, y).kind;
+    if like_x == like_y { UNION_BOTH } else { UNION_KIND }
+}
+
+// Whether an attrset with a functor meets a lambda.
+fn is_functor(words: &[u32], a: Node, b: Node) -> bool {
+    if a.kind != ATTRSET {
+        return false;
+    }
+    if b.kind != LAMBDA {
+        return false;
+    }
+    let functor = word(words, FUNCTOR);
+    if functor == 0 {
+        return false;
+    }
+    has_field(words, a.x, a.y, functor - 1)
+}
+
+// Whether one of so many field records from the first on has this name.
+fn has_field(words: &[u32], first: u32, size: u32, name: u32) -> bool {
+    let mut i: u32 = 0;
+    while i < size {
+        if triple(words, FIELDS, std::num::wrapping_add_u32(first, i)).a == name {
+            return true;
+        }
+        i += 1;
+    }
+    false
+}
+
+// How sup's fields are met, up to one that is missing, and whether both have a dynamic type.
+fn count_fields(words: &[u32], tally: &mut [u32; 64], a: Node, b: Node) {
+    let size = b.y;
+    let mut i: u32 = 0;
+    while i < size {
+        let met = field_met(words, a, std::num::wrapping_add_u32(b.x, i));
+        add(tally, met, 1);
+        if met == FIELD_MISSING {
+            return;
+        }
+        i += 1;
+    }
+    if has_dynamic(a.flags) & has_dynamic(b.flags) {
+        add(tally, DYNAMICS, 1);
+    }
+}
+
+// How a field of sup is met in sub.
+fn field_met(words: &[u32], a: Node, n: u32) -> usize {
+    let field = triple(words, FIELDS, n);
+    if has_field(words, a.x, a.y, field.a) {
+        return FIELD_SAME;
+    }
+    if has_dynamic(a.flags) {
+        return FIELD_DYNAMIC;
+    }
+    if a.flags / 2 % 2 == 1 {
+        return FIELD_OPEN;
+    }
+    if field.c == 1 { FIELD_OPTIONAL } else { FIELD_MISSING }
+}
+
+// Whether an attrset's flags say that it has a dynamic type.
+fn has_dynamic(flags: u32) -> bool {
+    4 <= flags
+}
