@@ -3,6 +3,7 @@ use crate::tally::expect;
 use model::Made;
 use model::Refusal;
 use model::Reply;
+ghost use Prim.Native.Nat.{_≤_};
 
 // A make's answer.
 pub fn made(tally: &mut [u32; 64], made: Made, expected: u32) {
@@ -26,7 +27,9 @@ fn refused(tally: &mut [u32; 64], r: Refusal) {
 }
 
 // A refusal's number in 01.
-pub fn refusal_number(r: Refusal) -> u32 {
+pub fn refusal_number(r: Refusal) -> u32
+    ensures { λ n. ⌜ n ≤ 12 ⌝ }
+{
     match r {
         Refusal::BadTable => 1,
         Refusal::BadNumber => 2,
@@ -35,7 +38,12 @@ pub fn refusal_number(r: Refusal) -> u32 {
         Refusal::NoRoom(_) => 5,
         Refusal::TooDeep => 6,
         Refusal::BadFields => 7,
-        Refusal::Broken { kind: _, sub: _, sup: _, name: _ } => 8,
+        Refusal::Broken {
+            kind: _,
+            sub: _,
+            sup: _,
+            name: _,
+        } => 8,
         Refusal::BadCapacity => 9,
         Refusal::Level => 10,
         Refusal::NotAVariable => 11,

@@ -16,7 +16,6 @@ use crate::tally::add;
 use crate::tally::expect;
 use crate::tally::refuse;
 use model::Record;
-ghost use Prim.Native.Nat.{_≤_};
 
 // Regions.
 const ENTRIES: u32 = 1;
@@ -56,45 +55,88 @@ pub struct Triple {
 }
 
 // Reads an entry.
-pub fn node(words: &[u32], n: u32) -> Node {
+pub fn read_entry(words: &[u32], n: u32) -> Node {
     match sheafwinch::record(words, ENTRIES, n) {
-        Record::Entry { kind, x, y, z, flags, spread: _, negation } => {
-            Node { kind: kind, x: x, y: y, z: z, flags: flags, negation: negation }
+        Record::Entry {
+            kind,
+            x,
+            y,
+            z,
+            flags,
+            spread: _,
+            negation,
+        } => {
+            Node {
+                kind: kind,
+                x: x,
+                y: y,
+                z: z,
+                flags: flags,
+                negation: negation,
+            }
         }
-        _ => Node { kind: NO_ENTRY, x: 0, y: 0, z: 0, flags: 0, negation: 0 },
+        _ => Node {
+            kind: NO_ENTRY,
+            x: 0,
+            y: 0,
+            z: 0,
+            flags: 0,
+            negation: 0,
+        },
     }
 }
 
 // Reads a record of another region.
-pub fn triple(words: &[u32], region: u32, n: u32) -> Triple {
+pub fn read_record(words: &[u32], region: u32, n: u32) -> Triple {
     match sheafwinch::record(words, region, n) {
-        Record::Field { name, entry, optional } => present(name, entry, optional),
-        Record::Bound { variable, side, bound } => present(variable, side, bound),
+        Record::Field {
+            name,
+            entry,
+            optional,
+        } => present(name, entry, optional),
+        Record::Bound {
+            variable,
+            side,
+            bound,
+        } => present(variable, side, bound),
         Record::Visited { sub, sup } => present(sub, sup, 0),
         Record::Equal { left, right } => present(left, right, 0),
-        _ => Triple { there: false, a: 0, b: 0, c: 0 },
+        _ => Triple {
+            there: false,
+            a: 0,
+            b: 0,
+            c: 0,
+        },
     }
 }
 
 // A record that is there.
 fn present(a: u32, b: u32, c: u32) -> Triple {
-    Triple { there: true, a: a, b: b, c: c }
+    Triple {
+        there: true,
+        a: a,
+        b: b,
+        c: c,
+    }
 }
 
 // How many entries, bounds and visited pairs there are after a question.
 pub fn counts(words: &[u32], tally: &mut [u32; 64], line: &[u32; 32]) {
     expect(tally, b"entries", line[0], word(words, tables::ENTRIES));
     expect(tally, b"bounds", line[1], word(words, tables::BOUNDS));
-    expect(tally, b"visited pairs", line[2], word(words, tables::VISITED));
+    expect(
+        tally,
+        b"visited pairs",
+        line[2],
+        word(words, tables::VISITED),
+    );
 }
 
 // A line of the table.
-pub fn shown(words: &[u32], tally: &mut [u32; 64], letter: u8, line: &[u32; 32], count: usize)
-    requires { ⌜ count ≤ 32 ⌝ }
-{
+pub fn shown(words: &[u32], tally: &mut [u32; 64], letter: u8, line: &[u32; 32], rest: &[u32]) {
     match letter {
         b'L' => level(words, tally, line),
-        b'E' => entry(words, tally, line, count),
+        b'E' => entry(words, tally, line, rest),
         b'B' => bound(words, tally, line),
         b'V' => visited(words, tally, line),
         b'Q' => equal(words, tally, line),
@@ -115,10 +157,8 @@ fn level(words: &[u32], tally: &mut [u32; 64], line: &[u32; 32]) {
 }
 
 // An entry: flags, negation, kind, x, y, z; of an attrset x is left open, and its fields follow.
-fn entry(words: &[u32], tally: &mut [u32; 64], line: &[u32; 32], count: usize)
-    requires { ⌜ count ≤ 32 ⌝ }
-{
-    let e = node(words, tally[ENTRY_LINES]);
+fn entry(words: &[u32], tally: &mut [u32; 64], line: &[u32; 32], rest: &[u32]) {
+    let e = read_entry(words, tally[ENTRY_LINES]);
     add(tally, ENTRY_LINES, 1);
     add(tally, MARKS, e.flags % 2);
     expect(tally, b"flags", line[0], e.flags);
@@ -127,20 +167,27 @@ fn entry(words: &[u32], tally: &mut [u32; 64], line: &[u32; 32], count: usize)
     expect(tally, b"y", line[4], e.y);
     expect(tally, b"z", line[5], e.z);
     if e.kind == ATTRSET {
-        fields(words, tally, line, count, e.x);
+        fields(words, tally, rest, e.x);
     } else {
         expect(tally, b"x", line[3], e.x);
     }
 }
 
-// An attrset's fields, from a record on.
-fn fields(words: &[u32], tally: &mut [u32; 64], line: &[u32; 32], count: usize, first: u32)
-    requires { ⌜ count ≤ 32 ⌝ }
-{
+// An attrset's fields, from a record on: they stand behind x, y and z.
+fn fields(words: &[u32], tally: &mut [u32; 64], rest: &[u32], first: u32) {
+    if rest.len() < 3 {
+        return;
+    }
     let mut n = first;
-    let mut at: usize = 6;
-    while at + 3 <= count {
-        field(tally, triple(words, FIELDS, n), line[at], line[at + 1], line[at + 2]);
+    let mut at: usize = 3;
+    while 2 < rest.len() - at {
+        field(
+            tally,
+            read_record(words, FIELDS, n),
+            rest[at],
+            rest[at + 1],
+            rest[at + 2],
+        );
         n = std::num::wrapping_add_u32(n, 1);
         at += 3;
     }
@@ -165,7 +212,7 @@ fn there(tally: &mut [u32; 64], is_there: bool) {
 fn bound(words: &[u32], tally: &mut [u32; 64], line: &[u32; 32]) {
     let from = first_of(tally, line[0], line[1]);
     let n = next_of(words, line[0], line[1], from);
-    let r = triple(words, BOUNDS, n);
+    let r = read_record(words, BOUNDS, n);
     add(tally, BOUND_LINES, 1);
     tally[BOUND_VARIABLE] = line[0];
     tally[BOUND_SIDE] = line[1];
@@ -189,7 +236,7 @@ fn first_of(tally: &[u32; 64], variable: u32, side: u32) -> u32 {
 fn next_of(words: &[u32], variable: u32, side: u32, from: u32) -> u32 {
     let mut n = from;
     while n < BOUNDS_END {
-        if is_of(triple(words, BOUNDS, n), variable, side) {
+        if is_of(read_record(words, BOUNDS, n), variable, side) {
             return n;
         }
         n += 1;
@@ -204,7 +251,7 @@ fn is_of(r: Triple, variable: u32, side: u32) -> bool {
 
 // A visited pair; the rule that worked it is counted.
 fn visited(words: &[u32], tally: &mut [u32; 64], line: &[u32; 32]) {
-    let r = triple(words, VISITED, tally[VISITED_LINES]);
+    let r = read_record(words, VISITED, tally[VISITED_LINES]);
     add(tally, VISITED_LINES, 1);
     there(tally, r.there);
     expect(tally, b"visited pair's sub", line[0], r.a);
@@ -214,7 +261,7 @@ fn visited(words: &[u32], tally: &mut [u32; 64], line: &[u32; 32]) {
 
 // A pair asked equal.
 fn equal(words: &[u32], tally: &mut [u32; 64], line: &[u32; 32]) {
-    let r = triple(words, EQUALS, tally[EQUAL_LINES]);
+    let r = read_record(words, EQUALS, tally[EQUAL_LINES]);
     add(tally, EQUAL_LINES, 1);
     there(tally, r.there);
     expect(tally, b"equal pair's left", line[0], r.a);

@@ -46,12 +46,24 @@ fn line_end(text: &[u8], from: usize) -> usize
 // Runs a line.
 fn run(text: &[u8], words: &mut [u32], tally: &mut [u32; 64]) {
     add(tally, LINES, 1);
+    if text.len() == 0 {
+        return;
+    }
     let mut line = [0u32; 32];
     let count = numbers(text, &mut line);
     if count > 32 {
         return refuse(tally, b"more than 32 numbers, or a byte that is no digit");
     }
-    act(words, tally, letter(text), &line, count);
+    let from = least(count, 3);
+    let copy = line;
+    act(words, tally, letter(text), &line, &copy[from..count]);
+}
+
+// The lesser of two.
+pub fn least(a: usize, b: usize) -> usize
+    ensures { λ r. ⌜ r ≤ a ⌝ }
+{
+    if a < b { a } else { b }
 }
 
 // A line's letter, 0 where it has none.
@@ -73,7 +85,11 @@ fn numbers(text: &[u8], line: &mut [u32; 32]) -> usize {
 // How many numbers there are after a byte more: a space begins one, a digit goes to the last.
 fn next(byte: u8, line: &mut [u32; 32], count: usize) -> usize {
     if byte == b' ' {
-        return if count < UNREADABLE { count + 1 } else { UNREADABLE };
+        return if count < UNREADABLE {
+            count + 1
+        } else {
+            UNREADABLE
+        };
     }
     if count < 1 {
         return UNREADABLE;
@@ -93,7 +109,11 @@ fn next(byte: u8, line: &mut [u32; 32], count: usize) -> usize {
 
 // A number with a digit behind it; 0 past nine digits.
 fn joined(n: u32, digit: u8) -> u32 {
-    if n < 100000000 { n * 10 + wide(digit) } else { 0 }
+    if n < 100000000 {
+        n * 10 + wide(digit)
+    } else {
+        0
+    }
 }
 
 // A digit as a number.
@@ -103,19 +123,17 @@ fn wide(digit: u8) -> u32
     digit as u32
 }
 
-// Does what a line says, or holds the image to it.
-fn act(words: &mut [u32], tally: &mut [u32; 64], letter: u8, line: &[u32; 32], count: usize)
-    requires { ⌜ count ≤ 32 ⌝ }
-{
+// Does what a line says, or holds the image to it. Behind its third number a line may have fields.
+fn act(words: &mut [u32], tally: &mut [u32; 64], letter: u8, line: &[u32; 32], rest: &[u32]) {
     if is_make(letter) {
-        return made(tally, make(words, letter, line, count), line[0]);
+        return made(tally, make(words, letter, line, rest), line[0]);
     }
     match letter {
         b'n' => begin(words, tally, line),
         b'm' | b'b' | b's' | b'+' | b'-' => put(words, tally, letter, line),
         b'a' | b'q' => questions_asked::question(words, tally, letter, line),
         b'c' => dumped::counts(words, tally, line),
-        _ => dumped::shown(words, tally, letter, line, count),
+        _ => dumped::shown(words, tally, letter, line, rest),
     }
 }
 

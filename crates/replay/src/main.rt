@@ -13,23 +13,31 @@ mod tally;
 
 use libc::STDIN_FILENO;
 use libc::STDOUT_FILENO;
-ghost use mathlib.Core.Path.{_≡_};
-ghost use lib.ListN.{length};
+
+// More blocks than the file has.
+const BLOCKS: u32 = 100;
 
 fn main() {
-    let mut text = room();
-    let size = io::read_full(STDIN_FILENO, &mut text);
     let mut words = tables::room();
     let mut tally = [0u32; 64];
-    lines::replay(&text[..size], &mut words, &mut tally);
+    replay_blocks(&mut words, &mut tally);
     tally::print_tally(&tally);
 }
 
-// Room for the lines, more than the file has.
-fn room() -> [u8; 2500000]
-    ensures { λ r. ⌜ 2500000 ≡ length r ⌝ }
-{
-    [0u8; 2500000]
+// Every block of the input.
+fn replay_blocks(words: &mut [u32], tally: &mut [u32; 64]) {
+    let mut left = BLOCKS;
+    while left > 0 {
+        replay_block(words, tally);
+        left -= 1;
+    }
+}
+
+// A block of 65,536 bytes. No line goes over a block's end: empty lines fill a block up.
+fn replay_block(words: &mut [u32], tally: &mut [u32; 64]) {
+    let mut text = io::large_buffer();
+    let size = io::read_full(STDIN_FILENO, &mut text);
+    lines::replay(&text[..size], words, tally);
 }
 
 // Writes all of s to standard output.

@@ -1,6 +1,6 @@
 // The lines that make an entry, or put a mark, a bound or a level.
 use crate::compared::done;
-use crate::dumped::node;
+use crate::dumped::read_entry;
 use crate::tables;
 use crate::tables::word;
 use crate::tally::BOUNDS_PUT;
@@ -8,8 +8,6 @@ use crate::tally::MARKS_PUT;
 use crate::tally::add;
 use model::Dynamic;
 use model::Made;
-use model::Refusal;
-ghost use Prim.Native.Nat.{_≤_};
 
 // Whether a line makes an entry.
 pub fn is_make(letter: u8) -> bool {
@@ -20,15 +18,13 @@ pub fn is_make(letter: u8) -> bool {
 }
 
 // Makes an entry. The line's first number is that of the entry, the others are what it is made of.
-pub fn make(words: &mut [u32], letter: u8, line: &[u32; 32], count: usize) -> Made
-    requires { ⌜ count ≤ 32 ⌝ }
-{
+pub fn make(words: &mut [u32], letter: u8, line: &[u32; 32], rest: &[u32]) -> Made {
     match letter {
         b'v' => sheafwinch::make_variable(words),
         b'p' => sheafwinch::make_primitive(words, line[1]),
         b'l' => sheafwinch::make_list(words, line[1]),
         b'f' => sheafwinch::make_lambda(words, line[1], line[2]),
-        b't' => make_attrset(words, line, count),
+        b't' => sheafwinch::make_attrset(words, rest, line[1] != 0, dynamic(line[2])),
         b'd' => sheafwinch::make_named(words, line[1], line[2]),
         b'g' => sheafwinch::make_neg(words, line[1]),
         b'i' => sheafwinch::make_inter(words, line[1], line[2]),
@@ -36,19 +32,13 @@ pub fn make(words: &mut [u32], letter: u8, line: &[u32; 32], count: usize) -> Ma
     }
 }
 
-// An attrset: whether it is open, its dynamic type plus 1 or 0, and the fields.
-fn make_attrset(words: &mut [u32], line: &[u32; 32], count: usize) -> Made
-    requires { ⌜ count ≤ 32 ⌝ }
-{
-    if count < 3 {
-        return Made::Refused(Refusal::BadFields);
-    }
-    sheafwinch::make_attrset(words, &line[3..count], line[1] != 0, dynamic(line[2]))
-}
-
-// A dynamic type.
+// A dynamic type, told by its number plus 1, or 0.
 fn dynamic(n: u32) -> Dynamic {
-    if n == 0 { Dynamic::Absent } else { Dynamic::Present(n - 1) }
+    if n == 0 {
+        Dynamic::Absent
+    } else {
+        Dynamic::Present(n - 1)
+    }
 }
 
 // Puts what a line says.
@@ -64,7 +54,7 @@ pub fn put(words: &mut [u32], tally: &mut [u32; 64], letter: u8, line: &[u32; 32
 
 // Marks an entry, and counts it if it was not marked.
 fn mark(words: &mut [u32], tally: &mut [u32; 64], n: u32) {
-    add(tally, MARKS_PUT, 1 - node(words, n).flags % 2);
+    add(tally, MARKS_PUT, 1 - read_entry(words, n).flags % 2);
     done(tally, sheafwinch::mark(words, n));
 }
 

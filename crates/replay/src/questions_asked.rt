@@ -43,7 +43,7 @@ pub fn question(words: &mut [u32], tally: &mut [u32; 64], letter: u8, line: &[u3
     done(tally, asked(words, letter, line[0], line[1]));
     let first = tally[QUESTIONS] % 4;
     let limit = if line[4] == MORE { line[2] } else { UNLIMITED };
-    let w = worked(words, tally, limit, first);
+    let w = work_all(words, tally, limit, first);
     compare(tally, line, w);
     if w.answer == MORE {
         done(tally, sheafwinch::abandon(words));
@@ -59,8 +59,15 @@ fn asked(words: &mut [u32], letter: u8, left: u32, right: u32) -> Reply {
 }
 
 // Works it.
-fn worked(words: &mut [u32], tally: &mut [u32; 64], limit: u32, first: u32) -> Worked {
-    let mut w = Worked { answer: MORE, sub: 0, sup: 0, name: 0, steps: 0, left: limit };
+fn work_all(words: &mut [u32], tally: &mut [u32; 64], limit: u32, first: u32) -> Worked {
+    let mut w = Worked {
+        answer: MORE,
+        sub: 0,
+        sup: 0,
+        name: 0,
+        steps: 0,
+        left: limit,
+    };
     let mut turn: u32 = 0;
     while turn < 5 {
         w = work_on(words, tally, w, budget(turn, first, w.left));
@@ -103,13 +110,27 @@ fn work_on(words: &mut [u32], tally: &mut [u32; 64], w: Worked, budget: u32) -> 
 
 // A question that has ended.
 fn ended(answer: u32, sub: u32, sup: u32, name: u32, steps: u32) -> Worked {
-    Worked { answer: answer, sub: sub, sup: sup, name: name, steps: steps, left: 0 }
+    Worked {
+        answer: answer,
+        sub: sub,
+        sup: sup,
+        name: name,
+        steps: steps,
+        left: 0,
+    }
 }
 
 // One that has not: the instalment made as many steps as it was given.
 fn stopped(tally: &mut [u32; 64], budget: u32, done: u32, steps: u32, left: u32) -> Worked {
     expect(tally, b"steps of an instalment", budget, done);
-    Worked { answer: MORE, sub: 0, sup: 0, name: 0, steps: steps, left: left }
+    Worked {
+        answer: MORE,
+        sub: 0,
+        sup: 0,
+        name: 0,
+        steps: steps,
+        left: left,
+    }
 }
 
 // One that has failed.

@@ -1,19 +1,14 @@
 // Which rule worked a visited pair, told from its two entries as they stand: the first that fits, in 01's order. Entries keep their
 // kinds and components, so that a rule tells the same after the question as at its step.
 use crate::dumped::Node;
-use crate::dumped::node;
-use crate::dumped::triple;
+use crate::dumped::read_entry;
+use crate::dumped::read_record;
 use crate::tables::word;
 use crate::tally::add;
 use model::Disjointness;
-ghost use Prim.Native.Nat.{_≤_};
 
 // Kinds.
 const VARIABLE: u32 = 0;
-
-const PRIMITIVE: u32 = 1;
-
-const LIST: u32 = 2;
 
 const LAMBDA: u32 = 3;
 
@@ -39,8 +34,23 @@ const FIELDS: u32 = 2;
 
 const FUNCTOR: usize = 8;
 
-// How deep members are looked for.
+// What is looked for through components: a variable, an entry that is disjoint from another, a member; and how deep.
+const FOR_VARIABLE: u32 = 0;
+
+const FOR_DISJOINT: u32 = 1;
+
+const FOR_MEMBER: u32 = 2;
+
 const DEPTH: u32 = 100;
+
+// No entry.
+const NONE: u32 = 4294967295;
+
+// Two entries.
+struct Parts {
+    x: u32,
+    y: u32,
+}
 
 // Where the tally has each rule.
 const VARIABLE_VARIABLE: usize = 24;
@@ -113,8 +123,8 @@ const DYNAMICS: usize = 59;
 
 // Counts the rule of a pair, and of attrsets how sup's fields are met.
 pub fn count(words: &[u32], tally: &mut [u32; 64], sub: u32, sup: u32) {
-    let a = node(words, sub);
-    let b = node(words, sup);
+    let a = read_entry(words, sub);
+    let b = read_entry(words, sup);
     let rule = rule_of(words, sub, sup, a, b);
     add(tally, rule, 1);
     if rule == ATTRSETS {
@@ -125,7 +135,11 @@ pub fn count(words: &[u32], tally: &mut [u32; 64], sub: u32, sup: u32) {
 // The rule, where a variable or a named entry is on either side.
 fn rule_of(words: &[u32], sub: u32, sup: u32, a: Node, b: Node) -> usize {
     if a.kind == VARIABLE {
-        return if b.kind == VARIABLE { VARIABLE_VARIABLE } else { VARIABLE_CONCRETE };
+        return if b.kind == VARIABLE {
+            VARIABLE_VARIABLE
+        } else {
+            VARIABLE_CONCRETE
+        };
     }
     if b.kind == VARIABLE {
         return CONCRETE_VARIABLE;
@@ -147,7 +161,8 @@ fn rule_of(words: &[u32], sub: u32, sup: u32, a: Node, b: Node) -> usize {
 
 // The rule of two entries of one kind.
 fn like(words: &[u32], sub: u32, sup: u32, a: Node, b: Node) -> usize {
-    match a.kind {
+    let kind = a.kind;
+    match kind {
         1 => primitives(a.x, b.x),
         2 => LISTS,
         3 => LAMBDAS,
@@ -162,7 +177,11 @@ fn primitives(a: u32, b: u32) -> usize {
     if a == b {
         return EQUAL_PRIMITIVES;
     }
-    if is_under(a, b) { UNDER_NUMBER } else { MISMATCH }
+    if is_under(a, b) {
+        UNDER_NUMBER
+    } else {
+        MISMATCH
+    }
 }
 
 // Whether a primitive is Int or Float, and the other Number.
@@ -181,7 +200,11 @@ fn under_neg(words: &[u32], sub: u32, n: u32, a: Node, b: Node, sup: u32) -> usi
     if a.kind == UNION {
         return other(words, sub, sup, a, b);
     }
-    if is_disjoint(words, sub, n) { NEG_DISJOINT } else { NEG_MISMATCH }
+    if is_disjoint(words, sub, n) {
+        NEG_DISJOINT
+    } else {
+        NEG_MISMATCH
+    }
 }
 
 // Whether two entries are disjoint, which no variable is.
@@ -206,7 +229,11 @@ fn other(words: &[u32], sub: u32, sup: u32, a: Node, b: Node) -> usize {
     if b.kind == UNION {
         return union_right(words, sub, a, b.x, b.y);
     }
-    if is_functor(words, a, b) { FUNCTOR_LAMBDA } else { MISMATCH }
+    if is_functor(words, a, b) {
+        FUNCTOR_LAMBDA
+    } else {
+        MISMATCH
+    }
 }
 
 // Of an intersection on the left.
@@ -216,7 +243,11 @@ fn inter_left(words: &[u32], x: u32, y: u32, sup: u32) -> usize {
     if is_x == is_y {
         return INTER_BOTH;
     }
-    if is_x { inter_one(words, y, sup) } else { inter_one(words, x, sup) }
+    if is_x {
+        inter_one(words, y, sup)
+    } else {
+        inter_one(words, x, sup)
+    }
 }
 
 // Whether a side is chosen.
@@ -224,92 +255,78 @@ fn is_chosen(words: &[u32], side: u32, other: u32) -> bool {
     if is_variable(words, side) {
         return true;
     }
-    if holds_variable(words, other, DEPTH) {
+    if holds_variable(words, other) {
         return false;
     }
-    holds_variable(words, side, DEPTH)
+    holds_variable(words, side)
 }
 
 // Whether an entry is a variable.
 fn is_variable(words: &[u32], n: u32) -> bool {
-    node(words, n).kind == VARIABLE
+    read_entry(words, n).kind == VARIABLE
 }
 
 // Whether it leads to one through inter and named.
-fn holds_variable(words: &[u32], n: u32, depth: u32) -> bool {
-    let e = node(words, n);
-    if depth == 0 {
-        return false;
-    }
-    if e.kind == VARIABLE {
-        return true;
-    }
-    if e.kind == NAMED {
-        return holds_variable(words, e.x, depth - 1);
-    }
-    if e.kind != INTER {
-        return false;
-    }
-    if holds_variable(words, e.x, depth - 1) {
-        return true;
-    }
-    holds_variable(words, e.y, depth - 1)
+fn holds_variable(words: &[u32], n: u32) -> bool {
+    leads(words, n, FOR_VARIABLE, 0, DEPTH)
 }
 
 // With one side chosen, d the other.
 fn inter_one(words: &[u32], d: u32, sup: u32) -> usize {
-    if member_disjoint(words, d, sup, DEPTH) {
+    if leads(words, d, FOR_DISJOINT, sup, DEPTH) {
         return INTER_DISJOINT;
     }
-    if has_member(words, sup, negation_of(words, d), DEPTH) { INTER_SUP } else { INTER_NEW }
-}
-
-// Whether d, or a member of it through inter, is disjoint from sup.
-fn member_disjoint(words: &[u32], d: u32, sup: u32, depth: u32) -> bool {
-    let e = node(words, d);
-    if depth == 0 {
-        return false;
+    if leads(words, sup, FOR_MEMBER, negation_of(words, d), DEPTH) {
+        INTER_SUP
+    } else {
+        INTER_NEW
     }
-    if is_disjoint(words, d, sup) {
-        return true;
-    }
-    if e.kind != INTER {
-        return false;
-    }
-    if member_disjoint(words, e.x, sup, depth - 1) {
-        return true;
-    }
-    member_disjoint(words, e.y, sup, depth - 1)
 }
 
 // The number of d's negation: the cached one, or what d negates.
 fn negation_of(words: &[u32], d: u32) -> u32 {
-    let e = node(words, d);
+    let e = read_entry(words, d);
     if 0 < e.negation {
         return e.negation - 1;
     }
     e.x
 }
 
-// Whether an entry is m, or has m as a member through union and named.
-fn has_member(words: &[u32], n: u32, m: u32, depth: u32) -> bool {
-    let e = node(words, n);
+// Whether an entry, or one that it leads to, is what is looked for.
+fn leads(words: &[u32], n: u32, search: u32, m: u32, depth: u32) -> bool {
     if depth == 0 {
         return false;
     }
-    if n == m {
-        return true;
-    }
-    if e.kind == NAMED {
-        return has_member(words, e.x, m, depth - 1);
-    }
-    if e.kind != UNION {
+    if n == NONE {
         return false;
     }
-    if has_member(words, e.x, m, depth - 1) {
+    if is_found(words, n, search, m) {
         return true;
     }
-    has_member(words, e.y, m, depth - 1)
+    let next = parts_of(search, read_entry(words, n));
+    if leads(words, next.x, search, m, depth - 1) {
+        return true;
+    }
+    leads(words, next.y, search, m, depth - 1)
+}
+
+// Whether an entry is a variable, or disjoint from m, or m itself.
+fn is_found(words: &[u32], n: u32, search: u32, m: u32) -> bool {
+    match search {
+        0 => is_variable(words, n),
+        1 => is_disjoint(words, n, m),
+        _ => n == m,
+    }
+}
+
+// Where a search goes on: to both components of a union in that for a member, else of an intersection; to the inner entry of a
+// named one in all but that for a disjoint one.
+fn parts_of(search: u32, e: Node) -> Parts {
+    if e.kind == NAMED {
+        return Parts { x: if search == FOR_DISJOINT { NONE } else { e.x }, y: NONE };
+    }
+    let through = if search == FOR_MEMBER { UNION } else { INTER };
+    if e.kind == through { Parts { x: e.x, y: e.y } } else { Parts { x: NONE, y: NONE } }
 }
 
 // Of a union on the right.
@@ -330,7 +347,11 @@ fn union_right(words: &[u32], sub: u32, a: Node, x: u32, y: u32) -> usize {
 
 // With one variable, n the other side.
 fn union_one(words: &[u32], a: Node, n: u32) -> usize {
-    if is_compatible(words, a, node(words, n)) { UNION_COMPATIBLE } else { UNION_VARIABLE }
+    if is_compatible(words, a, read_entry(words, n)) {
+        UNION_COMPATIBLE
+    } else {
+        UNION_VARIABLE
+    }
 }
 
 // Whether an entry is compatible with a concrete one.
@@ -354,9 +375,13 @@ fn union_none(words: &[u32], sub: u32, a: Node, x: u32, y: u32) -> usize {
     if far_x | far_y {
         return UNION_OTHER;
     }
-    let like_x = a.kind == node(words, x).kind;
-    let like_y = a.kind == node(words, y).kind;
-    if like_x == like_y { UNION_BOTH } else { UNION_KIND }
+    let like_x = a.kind == read_entry(words, x).kind;
+    let like_y = a.kind == read_entry(words, y).kind;
+    if like_x == like_y {
+        UNION_BOTH
+    } else {
+        UNION_KIND
+    }
 }
 
 // Whether an attrset with a functor meets a lambda.
@@ -378,7 +403,7 @@ fn is_functor(words: &[u32], a: Node, b: Node) -> bool {
 fn has_field(words: &[u32], first: u32, size: u32, name: u32) -> bool {
     let mut i: u32 = 0;
     while i < size {
-        if triple(words, FIELDS, std::num::wrapping_add_u32(first, i)).a == name {
+        if read_record(words, FIELDS, std::num::wrapping_add_u32(first, i)).a == name {
             return true;
         }
         i += 1;
@@ -405,7 +430,7 @@ fn count_fields(words: &[u32], tally: &mut [u32; 64], a: Node, b: Node) {
 
 // How a field of sup is met in sub.
 fn field_met(words: &[u32], a: Node, n: u32) -> usize {
-    let field = triple(words, FIELDS, n);
+    let field = read_record(words, FIELDS, n);
     if has_field(words, a.x, a.y, field.a) {
         return FIELD_SAME;
     }
@@ -415,7 +440,11 @@ fn field_met(words: &[u32], a: Node, n: u32) -> usize {
     if a.flags / 2 % 2 == 1 {
         return FIELD_OPEN;
     }
-    if field.c == 1 { FIELD_OPTIONAL } else { FIELD_MISSING }
+    if field.c == 1 {
+        FIELD_OPTIONAL
+    } else {
+        FIELD_MISSING
+    }
 }
 
 // Whether an attrset's flags say that it has a dynamic type.
