@@ -11,6 +11,7 @@ use crate::tally::LINES;
 use crate::tally::SCRIPTS;
 use crate::tally::add;
 use crate::tally::refuse;
+ghost use mathlib.Core.Path.{_≡_};
 ghost use Prim.Native.Nat.{_≤_};
 ghost use lib.ListN.{length};
 
@@ -55,8 +56,21 @@ fn run(text: &[u8], words: &mut [u32], tally: &mut [u32; 64]) {
         return refuse(tally, b"more than 32 numbers, or a byte that is no digit");
     }
     let from = least(count, 3);
-    let copy = line;
+    let copy = copied(&line);
     act(words, tally, letter(text), &line, &copy[from..count]);
+}
+
+// A line's numbers once more, to lend a part of them.
+fn copied(line: &[u32; 32]) -> [u32; 32]
+    ensures { λ r. ⌜ 32 ≡ length r ⌝ }
+{
+    let mut copy = [0u32; 32];
+    let mut at: usize = 0;
+    while at < 32 {
+        copy[at] = line[at];
+        at += 1;
+    }
+    copy
 }
 
 // The lesser of two.

@@ -1,59 +1,49 @@
+-- `replay::lines::replay` is safe and ends: each line ends within the text, the words keep their length, and what is left of the text falls. Assumes nothing.
+use Prim.Native.Nat.{_+_, _≤_, _-_}
+use mathlib.Core.Path.{_≡_}
+use lib.ListN.{length}
+use borrow.Author.Needs.{needs}
 use Rattle.replay.proofs.lines.replay.Statement.{statement}
 use Rattle.replay.proofs.lines.replay.Tie as tie
-use Rattle.replay.proofs.lines.replay.Reads as reads
-use Rattle.replay.proofs.lines.replay.Lts as lts
-use Rattle.replay.proofs.lines.line_end.Reads as line-end-reads
-use Rattle.replay.proofs.lines.run.Reads as run-reads
 
 abbrev Inv-loop : tie.InvT-loop
-Inv-loop text words₀ tally₀ at₀ words tally at = ?
+Inv-loop text words₀ tally₀ at₀ words tally at = (at ≤ length text + 1) × (length words ≡ length words₀)
 
 abbrev μ-loop : tie.MeasureT-loop
-μ-loop text words₀ tally₀ at₀ words tally at = ?
+μ-loop text words₀ tally₀ at₀ words tally at = (length text + 1) - at
 
--- src/lines.rt:23:5
 loop-holds : tie.Need-loop-holds Inv-loop μ-loop
-loop-holds c = ?
+loop-holds c = search needs
 
--- src/lines.rt:24:13
 line-end-requires : tie.Need-line-end-requires Inv-loop μ-loop
-line-end-requires c κs = ?
+line-end-requires c κs = search needs
 
--- src/lines.rt:25:13
 sub-run : tie.Need-sub-run Inv-loop μ-loop
-sub-run c = ?
+sub-run c = search needs
 
--- src/lines.rt:25:13
 part-run-start : tie.Need-part-run-start Inv-loop μ-loop
-part-run-start c = ?
+part-run-start c = search needs
 
--- src/lines.rt:25:13
 part-run-end : tie.Need-part-run-end Inv-loop μ-loop
-part-run-end c = ?
+part-run-end c = search needs
 
--- src/lines.rt:25:9
 run-requires : tie.Need-run-requires Inv-loop μ-loop
-run-requires c κs = ?
+run-requires c κs = search needs
 
--- src/lines.rt:26:14
 add-at : tie.Need-add-at Inv-loop μ-loop
-add-at c = ?
+add-at c = search needs
 
--- src/lines.rt:23:5
 loop-less : tie.Need-loop-less Inv-loop μ-loop
-loop-less c = ?
+loop-less c = search needs
 
--- src/lines.rt:23:5
 loop-again : tie.Need-loop-again Inv-loop μ-loop
-loop-again c = ?
+loop-again c = search needs
 
--- src/lines.rt:21:1
 same-length : tie.Need-same-length Inv-loop μ-loop
-same-length c = ?
+same-length c = search needs
 
--- src/lines.rt:21:1
 returns : tie.Need-returns Inv-loop μ-loop
-returns c = ?
+returns c = search needs
 
 pub replay-spec : {M : Type 1} → statement M
 replay-spec =
