@@ -1,5 +1,5 @@
 -- What sup's fields ask, one after the other, and that the two passes are the model's attrset rule. Assumes nothing.
-use Prim.Native.Nat.{ℕ, suc, _+_, _-_, _≤_, _<_}
+use Prim.Native.Nat.{ℕ, suc, _+_, _≤_, _<_}
 use native.Mathlib.Omega.{arith}
 use mathlib.Core.Path.{_≡_, refl, sym, ap, _∙_}
 use mathlib.Core.List.{List, [], _∷_, _++_}
@@ -13,7 +13,7 @@ use Rattle.model.specs.Lists.{isZero}
 use Rattle.model.specs.Format.{attrset}
 use Rattle.model.specs.Table.{Entry, Field, Pair, _⊑_, Store, entryAt, is, isAt, isOpen, hasDynamic}
 use Rattle.model.specs.Shapes.{fieldsOf, fieldNamed}
-use Rattle.model.specs.Rules.{Effect, mismatch, Gathered, gathered, lacking, before, gatherOne, gather, dynamics, gatheredEffect, attrsets}
+use Rattle.model.specs.Rules.{mismatch, Gathered, gathered, lacking, before, gatherOne, gather, dynamics, gatheredEffect, attrsets}
 use Rattle.model.specs.Calls.{readOut, dynamicOf}
 use Rattle.model.specs.declared.Attrset.{Attrset}
 use Rattle.model.specs.declared.Dynamic.{Dynamic}
@@ -52,7 +52,8 @@ module _ (d : Dynamic) (o : Bool) (f : Field) where
   ask-optional q p z = rw (q, p, ne-eqb _ _ z)
 
 -- the search by the name that was read
-pub named-by : (fs : List Field) (a : Attrset) {name n : ℕ} {r o : Found} → n ≡ name → r ≡ numberNamed fs (a .first) (a .count) n → r ≡ o → numberNamed fs (a .first) (a .count) name ≡ o
+pub named-by : (fs : List Field) (a : Attrset) {name n : ℕ} {r o : Found} → n ≡ name → r ≡ numberNamed fs (a .first) (a .count) n → r ≡ o
+    → numberNamed fs (a .first) (a .count) name ≡ o
 named-by fs a p q e = sym (rw p at q) ∙ e
 
 -- any field
@@ -61,9 +62,22 @@ module _ (fs : List Field) (a : Attrset) (h : Inside fs a) (f : Field) where
   unfolding askOf
   ask-found q = rw (named-found fs (a .first) (a .count) (f .name) h q)
 
-  pub ask-nothing : numberNamed fs (a .first) (a .count) (f .name) ≡ Nothing → askDynamic (a .dynamic) (a .is_open) f ≡ askOf a (fieldsHeld fs a) f
+  pub ask-nothing : numberNamed fs (a .first) (a .count) (f .name) ≡ Nothing
+      → askDynamic (a .dynamic) (a .is_open) f ≡ askOf a (fieldsHeld fs a) f
   unfolding askOf
   ask-nothing q = rw (named-nothing fs (a .first) (a .count) (f .name) h q)
+
+-- the fields from j on, by what field j asks
+module _ (fs : List Field) (a : Attrset) (j e : ℕ) (h : j < e) (l : e ≤ length fs) where
+  pub pairs-next : pairsAsked a (fieldsHeld fs a) (rest fs j e)
+      ≡ asked (askOf a (fieldsHeld fs a) (fieldAt fs j)) (fieldAt fs j) (pairsAsked a (fieldsHeld fs a) (rest fs (j + 1) e))
+  unfolding pairsAsked
+  pairs-next = rw (next fs j e h l)
+
+  first-next : firstMissing a (fieldsHeld fs a) (rest fs j e)
+      ≡ missingOr (askOf a (fieldsHeld fs a) (fieldAt fs j)) (fieldAt fs j) (firstMissing a (fieldsHeld fs a) (rest fs (j + 1) e))
+  unfolding firstMissing
+  first-next = rw (next fs j e h l)
 
 -- where the loop stands: nothing is missing before field j, and so many pairs were seen
 pub record Going (fs : List Field) (a b : Attrset) (e j n : ℕ) : Type 0 where
@@ -87,27 +101,19 @@ going-start fs a b h =
 
 module _ {fs : List Field} {a b : Attrset} {e j n : ℕ} (g : Going fs a b e j n) where
   module _ (h : j < e) where
-    first-next : firstMissing a (fieldsHeld fs a) (rest fs j e) ≡ missingOr (askOf a (fieldsHeld fs a) (fieldAt fs j)) (fieldAt fs j) (firstMissing a (fieldsHeld fs a) (rest fs (j + 1) e))
-    unfolding firstMissing
-    first-next = rw (next fs j e h (g .there))
-
-    pairs-next : pairsAsked a (fieldsHeld fs a) (rest fs j e) ≡ asked (askOf a (fieldsHeld fs a) (fieldAt fs j)) (fieldAt fs j) (pairsAsked a (fieldsHeld fs a) (rest fs (j + 1) e))
-    unfolding pairsAsked
-    pairs-next = rw (next fs j e h (g .there))
-
     -- it is under some entry, it asks nothing, or it is missing
     pub going-under : {x : ℕ} → askOf a (fieldsHeld fs a) (fieldAt fs j) ≡ A.Under x → Going fs a b e (j + 1) (n + 1)
     going-under {x} q =
-        let p : firstMissing a (fieldsHeld fs a) (rest fs j e) ≡ firstMissing a (fieldsHeld fs a) (rest fs (j + 1) e) = first-next ∙ rw q in
-        let m : length (pairsAsked a (fieldsHeld fs a) (rest fs j e)) ≡ suc (length (pairsAsked a (fieldsHeld fs a) (rest fs (j + 1) e))) = rw (pairs-next, q) in
+        let p : firstMissing a (fieldsHeld fs a) (rest fs j e) ≡ firstMissing a (fieldsHeld fs a) (rest fs (j + 1) e) = first-next fs a j e h (g .there) ∙ rw q in
+        let m : length (pairsAsked a (fieldsHeld fs a) (rest fs j e)) ≡ suc (length (pairsAsked a (fieldsHeld fs a) (rest fs (j + 1) e))) = rw (pairs-next fs a j e h (g .there), q) in
         let k = g .few in
         let t = g .count in
         record { inside = omega arith; there = g .there; few = omega arith; first = g .first ∙ p; count = omega arith }
 
     pub going-nothing : askOf a (fieldsHeld fs a) (fieldAt fs j) ≡ A.Nothing → Going fs a b e (j + 1) n
     going-nothing q =
-        let p : firstMissing a (fieldsHeld fs a) (rest fs j e) ≡ firstMissing a (fieldsHeld fs a) (rest fs (j + 1) e) = first-next ∙ rw q in
-        let m : length (pairsAsked a (fieldsHeld fs a) (rest fs j e)) ≡ length (pairsAsked a (fieldsHeld fs a) (rest fs (j + 1) e)) = rw (pairs-next, q) in
+        let p : firstMissing a (fieldsHeld fs a) (rest fs j e) ≡ firstMissing a (fieldsHeld fs a) (rest fs (j + 1) e) = first-next fs a j e h (g .there) ∙ rw q in
+        let m : length (pairsAsked a (fieldsHeld fs a) (rest fs j e)) ≡ length (pairsAsked a (fieldsHeld fs a) (rest fs (j + 1) e)) = rw (pairs-next fs a j e h (g .there), q) in
         let k = g .few in
         let t = g .count in
         record { inside = omega arith; there = g .there; few = omega arith; first = g .first ∙ p; count = omega arith }
@@ -115,7 +121,7 @@ module _ {fs : List Field} {a b : Attrset} {e j n : ℕ} (g : Going fs a b e j n
     pub going-missing : askOf a (fieldsHeld fs a) (fieldAt fs j) ≡ A.Missing → N.Missing (fieldAt fs j .name) ≡ gatheredIn fs a b
     unfolding gatheredIn
     going-missing q =
-        let p : firstMissing a (fieldsHeld fs a) (fieldsHeld fs b) ≡ some (fieldAt fs j .name) = g .first ∙ first-next ∙ rw q in
+        let p : firstMissing a (fieldsHeld fs a) (fieldsHeld fs b) ≡ some (fieldAt fs j .name) = g .first ∙ first-next fs a j e h (g .there) ∙ rw q in
         rw p
 
   pub going-end : {m : ℕ} → e ≤ j → m ≡ n + bothDynamic (a .dynamic) (b .dynamic) → N.Follow (Fields a b m) ≡ gatheredIn fs a b
@@ -191,7 +197,7 @@ attrsets-told s p d e =
     let b = attrsetOf e in
     let m = firstMissing a (fieldsHeld (s .fields) a) (fieldsHeld (s .fields) b) in
     let q : gather d (fieldsOf (s .fields) d) (dynamics d e) (fieldsOf (s .fields) e) ≡ told m (fieldPairs (s .fields) a b) =
-        gather-told d (fieldsOf (s .fields) d) (dynamics d e) (fieldsOf (s .fields) e) ∙ rw (dynamics-told d e) in
+    gather-told d (fieldsOf (s .fields) d) (dynamics d e) (fieldsOf (s .fields) e) ∙ rw (dynamics-told d e) in
     effect-told s p a b m ∙ sym (ap (gatheredEffect s) q)
 
 applicable : (s : Store) (a b : Attrset) (m : Option ℕ) → Inside (s .fields) a → Inside (s .fields) b → Applicable s (gatheredBy (s .fields) a b m)

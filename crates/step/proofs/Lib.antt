@@ -1,1 +1,13 @@
-
+pub mod Visits
+pub mod Rooms
+pub mod Chains
+pub mod Taking
+pub mod Following
+pub mod BoundPairs
+pub mod Joining
+pub mod FieldPairs
+pub mod Settling
+pub mod Targets
+pub mod Isolating
+pub mod Functors
+pub mod Applying

@@ -458,12 +458,7 @@ fn apply(image: &mut [u32], sub: u32, sup: u32, next: Next) -> Step
 {
     match next {
         Next::Mismatch => fail(image, sub, sup, Failure::Mismatch { sub, sup }),
-        Next::Missing(name) => fail(
-            image,
-            sub,
-            sup,
-            Failure::MissingField { sub, sup, name },
-        ),
+        Next::Missing(name) => fail(image, sub, sup, Failure::MissingField { sub, sup, name }),
         Next::Follow(pairs) => follow(image, sub, sup, pairs),
         Next::Isolate { chosen, other } => isolate(image, sub, sup, chosen, other),
         Next::Functor { field, param, body } => functor(image, sub, sup, field, param, body),

@@ -35,10 +35,13 @@ returns-2 c =
 
 gather-requires : tie.Need-gather-requires
 gather-requires c κs =
-    let p = c .before .before .before .before .before .before .before .before .before .pre in
-    (p .0,
-    (attrset-inside _ (p .1 .0) _ (p .1 .1 .0) (sym (c .before .before .before .before .d .given .1) ∙ c .before .before .before .before .before .before .before .entry .ensures),
-    attrset-inside _ (p .1 .0) _ (p .1 .1 .1) (sym (c .before .e .given .1) ∙ c .before .before .before .before .before .before .entry2 .ensures)))
+    let p = c .before .before .before .before .before .before .before .before .before .pre in (
+      p .0,
+      (
+        attrset-inside _ (p .1 .0) _ (p .1 .1 .0) (sym (c .before .before .before .before .d .given .1) ∙ c .before .before .before .before .before .before .before .entry .ensures),
+        attrset-inside _ (p .1 .0) _ (p .1 .1 .1) (sym (c .before .e .given .1) ∙ c .before .before .before .before .before .before .entry2 .ensures),
+      ),
+    )
 
 returns-3 : tie.Need-returns-3
 returns-3 c =

@@ -1,0 +1,119 @@
+-- Words after several changes, one after the other: the table that they show, and what the next change needs. Assumes nothing.
+use Prim.Native.Nat.{ℕ, _+_, _-_, _≤_, _<_, _/_, _%_}
+use native.Mathlib.Omega.{arith}
+use mathlib.Core.Path.{_≡_, sym, ap, subst, _∙_}
+use mathlib.Core.List.{List, [], _∷_, _++_, append-nil}
+use mathlib.Core.Bool.{Bool, true, false}
+use lib.ListN.{length, take}
+use lib.Dec.{eqb}
+use borrow.Author.Tests.{eq-eqb, ne-eqb}
+use Rattle.model.specs.Format.{unbroken, variable, markFlag, lower}
+use Rattle.model.specs.Table.{Bound, Pair, _⊑_, Table, tableOf, entryAt, is, isAt, isBroken, marked, withBounds}
+use Rattle.model.specs.Making.{boundsIn, repeats, addBound, changed, withMark, markEntry}
+use Rattle.model.specs.Rules.{visit, breakOf, fillBreak, passMark}
+use Rattle.model.specs.declared.Failure.{Failure}
+use Rattle.model.specs.declared.Dynamic.{Dynamic}
+use Rattle.model.specs.declared.Dynamic.the-variants.{Absent, Present}
+use Rattle.image.specs.Shown.{Shows, Shown, storeOf, entriesOf, boundsAll, visitedIn, pendingIn, visitedTo, boundsTo, entriesTo, pendingTo, brokenTo}
+use Rattle.image.proofs.Laying.{seen, shown}
+use Rattle.constrain.specs.Fields.{dynamicPairs}
+use Rattle.step.specs.Taken.{beforeLast}
+use Rattle.step.specs.Put.{boundPair}
+use Rattle.step.proofs.Rooms.{one-more}
+
+-- a pair visited, then the last one taken off pending
+module _ (w v : List ℕ) (p : Pair) (s : Shows v (visitedTo w (visitedIn w ++ (p ∷ [])))) where
+  pub visited-pending : 0 < length (pendingIn w) → Shown v × (0 < length (pendingIn v))
+  visited-pending h = (shown s, subst (λ (t : Table). 0 < length (t .pending)) (sym (seen s)) h)
+
+  pub advanced : (u : List ℕ) → Shows u (pendingTo v (take (length (pendingIn v) - 1) (pendingIn v))) → Shows u (tableOf (visit p (storeOf w)) (beforeLast w))
+  unfolding visit
+  advanced u su = subst (λ (t : Table). Shows u (tableOf (t .store) (take (length (t .pending) - 1) (t .pending)))) (seen s) su
+
+-- the break words, where none stands there
+module _ (w : List ℕ) (f : Failure) (k : ℕ) (e : k ≡ storeOf w .broken .kind) where
+  pub break-stands : 0 < k → Shown w → Shows w (tableOf (fillBreak f (storeOf w)) (pendingIn w))
+  unfolding fillBreak isBroken
+  break-stands h s =
+      let z : eqb (storeOf w .broken .kind) unbroken ≡ false = ne-eqb (storeOf w .broken .kind) unbroken (λ (q : storeOf w .broken .kind ≡ unbroken). let y : ⊥ = omega arith in y) in
+      rw z s
+
+  pub break-filled : k ≡ 0 → (g : Failure) → f ≡ g → (u : List ℕ) → Shows u (brokenTo w (breakOf g)) → Shows u (tableOf (fillBreak f (storeOf w)) (pendingIn w))
+  unfolding fillBreak isBroken
+  break-filled h g q u su =
+      let z : eqb (storeOf w .broken .kind) unbroken ≡ true = eq-eqb (storeOf w .broken .kind) unbroken (omega arith) in
+      rw (z, q) su
+
+-- a bound, unless it repeats one
+module _ (w : List ℕ) (repeated : Bool) (v side b : ℕ) (e : repeated ≡ repeats (boundsIn (boundsAll w) v side) b) where
+  pub bound-kept : repeated ≡ true → Shown w → Shows w (tableOf (addBound v side b (storeOf w)) (pendingIn w))
+  unfolding addBound
+  bound-kept t s = let z : repeats (boundsIn (boundsAll w) v side) b ≡ true = sym e ∙ t in rw z s
+
+  module _ (t : repeated ≡ false) where
+    pub bound-push : length (addBound v side b (storeOf w) .bounds) ≤ storeOf w .capacities .bounds → length (boundsAll w) < storeOf w .capacities .bounds
+    unfolding addBound withBounds
+    bound-push h =
+        let x : Bound = record { variable = v; side = side; bound = b } in
+        let z : repeats (boundsIn (boundsAll w) v side) b ≡ false = sym e ∙ t in
+        let n : length (boundsAll w ++ (x ∷ [])) ≤ storeOf w .capacities .bounds = rw z at h in
+        omega (arith, one-more (boundsAll w) x)
+
+    pub bound-put : (u : List ℕ) → Shows u (boundsTo w (boundsAll w ++ (record { variable = v; side = side; bound = b } ∷ []))) → Shows u (tableOf (addBound v side b (storeOf w)) (pendingIn w))
+    unfolding addBound
+    bound-put u su = let z : repeats (boundsIn (boundsAll w) v side) b ≡ false = sym e ∙ t in rw z su
+
+-- a mark passed on
+module _ (w : List ℕ) (sub sup kind : ℕ) (e : kind ≡ entryAt (entriesOf w) sup .kind) where
+  pub no-variable : 0 < kind → Shown w → Shows w (tableOf (passMark sub sup (storeOf w)) (pendingIn w))
+  unfolding passMark isAt is
+  no-variable h s =
+      let z : eqb (entryAt (entriesOf w) sup .kind) variable ≡ false = ne-eqb (entryAt (entriesOf w) sup .kind) variable (λ (q : entryAt (entriesOf w) sup .kind ≡ variable). let y : ⊥ = omega arith in y) in
+      rw z s
+
+  module _ (h : kind ≡ 0) (flags : ℕ) (f : flags ≡ entryAt (entriesOf w) sub .flags) where
+    is-variable : eqb (entryAt (entriesOf w) sup .kind) variable ≡ true
+    is-variable = eq-eqb (entryAt (entriesOf w) sup .kind) variable (omega arith)
+
+    flag : entryAt (entriesOf w) sub .flags / 1 % 2 ≡ flags % 2
+    flag = let z : entryAt (entriesOf w) sub .flags / 1 ≡ flags = omega arith in rw z
+
+    pub mark-none : (flags % 2 ≡ 1 → ⊥) → Shown w → Shows w (tableOf (passMark sub sup (storeOf w)) (pendingIn w))
+    unfolding passMark isAt is marked
+    mark-none n s =
+        let z : eqb (entryAt (entriesOf w) sub .flags / markFlag % 2) 1 ≡ false = ne-eqb (entryAt (entriesOf w) sub .flags / markFlag % 2) 1 (λ (q : entryAt (entriesOf w) sub .flags / 1 % 2 ≡ 1). n (sym flag ∙ q)) in
+        rw (is-variable, z) s
+
+    pub mark-passed : flags % 2 ≡ 1 → (u : List ℕ) → Shows u (entriesTo w (changed withMark (entriesOf w) sup)) → Shows u (tableOf (passMark sub sup (storeOf w)) (pendingIn w))
+    unfolding passMark isAt is marked markEntry
+    mark-passed m u su =
+        let z : eqb (entryAt (entriesOf w) sub .flags / markFlag % 2) 1 ≡ true = eq-eqb (entryAt (entriesOf w) sub .flags / markFlag % 2) 1 (flag ∙ m) in
+        rw (is-variable, z) su
+
+-- a pair put by the side of a bound
+module _ (w u : List ℕ) (side b x : ℕ) where
+  pub pair-lower : side ≡ 0 → Shows u (pendingTo w (pendingIn w ++ ((x ⊑ b) ∷ []))) → Shows u (pendingTo w (pendingIn w ++ (boundPair side b x ∷ [])))
+  pair-lower h s = let z : eqb side lower ≡ true = eq-eqb side lower h in rw z s
+
+  pub pair-upper : (side ≡ 0 → ⊥) → Shows u (pendingTo w (pendingIn w ++ ((b ⊑ x) ∷ []))) → Shows u (pendingTo w (pendingIn w ++ (boundPair side b x ∷ [])))
+  pair-upper h s = let z : eqb side lower ≡ false = ne-eqb side lower h in rw z s
+
+-- the pair of two dynamic types, if both are there
+module _ (w : List ℕ) (a b : Dynamic) where
+  pub dynamic-room : (m n : ℕ) → a ≡ Present m → b ≡ Present n → length (pendingIn w) + length (dynamicPairs a b) ≤ storeOf w .capacities .pending
+      → length (pendingIn w) < storeOf w .capacities .pending
+  dynamic-room m n ea eb h =
+      let z : length (dynamicPairs a b) ≡ 1 = rw (ea, eb) in
+      omega arith
+
+  pub dynamic-put : (m n : ℕ) → a ≡ Present m → b ≡ Present n → (u : List ℕ) → Shows u (pendingTo w (pendingIn w ++ ((m ⊑ n) ∷ []))) → Shows u (pendingTo w (pendingIn w ++ dynamicPairs a b))
+  dynamic-put m n ea eb u s = rw (ea, eb) s
+
+  none-put : dynamicPairs a b ≡ [] → Shown w → Shows w (pendingTo w (pendingIn w ++ dynamicPairs a b))
+  none-put e s = subst (λ (l : List Pair). Shows w (pendingTo w l)) (sym (ap (λ (l : List Pair). pendingIn w ++ l) e ∙ append-nil (pendingIn w))) s
+
+  pub no-second : (m : ℕ) → a ≡ Present m → b ≡ Absent → Shown w → Shows w (pendingTo w (pendingIn w ++ dynamicPairs a b))
+  no-second m ea eb = none-put (rw (ea, eb))
+
+  pub no-first : a ≡ Absent → Shown w → Shows w (pendingTo w (pendingIn w ++ dynamicPairs a b))
+  no-first ea = none-put (rw ea)

@@ -1,0 +1,110 @@
+-- Sub joins the lower bounds of sup: refused for want of room, or gone on.
+use denote.Ref.{now}
+use Rattle.model.specs.Format.{lower, upper}
+use Rattle.model.specs.Table.{_⊑_}
+use Rattle.image.proofs.Laying.{formed-shown, formed-laid}
+use Rattle.step.proofs.Joining.{bound-fits, lower-joins, then-advance, advance-needs, pairs-need, lower-refused, lower-joined}
+use borrow.Author.Needs.{needs}
+use Rattle.step.proofs.add_lower_bound.Statement.{statement}
+use Rattle.step.proofs.add_lower_bound.Tie as tie
+
+bounds-count-requires : tie.Need-bounds-count-requires
+bounds-count-requires c κs =
+    formed-laid _ (c .before .before .pre .0)
+
+repeats-bound-requires : tie.Need-repeats-bound-requires
+repeats-bound-requires c κs =
+    (formed-laid _ (c .before .before .before .before .pre .0), c .before .bounds-count .ensures)
+
+count-bounds-requires : tie.Need-count-bounds-requires
+count-bounds-requires c κs =
+    (formed-laid _ (c .before .before .before .before .before .before .pre .0), c .before .before .before .bounds-count .ensures)
+
+room-for-bound-requires : tie.Need-room-for-bound-requires
+room-for-bound-requires c κs = search needs
+
+enum-known-room : tie.Need-enum-known-room
+enum-known-room c = search needs
+
+same-length : tie.Need-same-length
+same-length c = search needs
+
+returns : tie.Need-returns
+returns c =
+    let s = c .before .before .before .before .before .before .before .before .before .before .before .before in
+    let a = s .args in
+    let w = now (a .image) in
+    let more = c .before .before .before .before .before .count-bounds .result in
+    let found = c .before .before .before .room-for-bound .result in
+    let q = c .before .before .before .room-for-bound .ensures (a .sup) lower (a .sub) (c .before .before .before .before .before .before .before .repeats-bound .ensures) in
+    let j = lower-joins w (a .sub) (a .sup) more found (c .before .before .before .before .before .count-bounds .ensures) q in
+    lower-refused w (a .sub) (a .sup) more found j _ (c .before .room .given .1)
+
+enum-told : tie.Need-enum-told
+enum-told c = search needs
+
+add-bound-requires : tie.Need-add-bound-requires
+add-bound-requires c κs =
+    let s = c .before .before .before .before .before .before .before .before .before .before .before .before in
+    let a = s .args in
+    let w = now (a .image) in
+    let more = c .before .before .before .before .before .count-bounds .result in
+    let found = c .before .before .before .room-for-bound .result in
+    let q = c .before .before .before .room-for-bound .ensures (a .sup) lower (a .sub) (c .before .before .before .before .before .before .before .repeats-bound .ensures) in
+    (formed-shown _ (s .pre .0), (c .before .before .before .before .before .before .before .repeats-bound .ensures, bound-fits w (a .sup) lower (a .sub) more found (c .before .enum-told .given .1) q))
+
+advance-requires : tie.Need-advance-requires
+advance-requires c κs =
+    let s = c .before .before .before .before .before .before .before .before .before .before .before .before .before .before .before .before in
+    let a = s .args in
+    let w = now (a .image) in
+    let more = c .before .before .before .before .before .before .before .before .before .count-bounds .result in
+    let found = c .before .before .before .before .before .before .before .room-for-bound .result in
+    let q = c .before .before .before .before .before .before .before .room-for-bound .ensures (a .sup) lower (a .sub) (c .before .before .before .before .before .before .before .before .before .before .before .repeats-bound .ensures) in
+    let j = lower-joins w (a .sub) (a .sup) more found (c .before .before .before .before .before .before .before .before .before .count-bounds .ensures) q in
+    advance-needs w _ (a .sup) upper more found j (c .before .before .before .before .before .enum-told .given .1) _ (c .before .before .before .add-bound .ensures) (s .pre .1 .0)
+
+put-bound-pairs-requires : tie.Need-put-bound-pairs-requires
+put-bound-pairs-requires c κs =
+    let s = c .before .before .before .before .before .before .before .before .before .before .before .before .before .before .before .before .before .before .before .before in
+    let a = s .args in
+    let w = now (a .image) in
+    let more = c .before .before .before .before .before .before .before .before .before .before .before .before .before .count-bounds .result in
+    let found = c .before .before .before .before .before .before .before .before .before .before .before .room-for-bound .result in
+    let q = c .before .before .before .before .before .before .before .before .before .before .before .room-for-bound .ensures (a .sup) lower (a .sub) (c .before .before .before .before .before .before .before .before .before .before .before .before .before .before .before .repeats-bound .ensures) in
+    let j = lower-joins w (a .sub) (a .sup) more found (c .before .before .before .before .before .before .before .before .before .before .before .before .before .count-bounds .ensures) q in
+    let v = then-advance (c .before .before .before .before .before .before .before .add-bound .ensures) (a .sub ⊑ a .sup) (c .before .before .before .advance .ensures) in
+    pairs-need w _ (a .sup) upper more found j (c .before .before .before .before .before .before .before .before .before .enum-told .given .1) (a .sub ⊑ a .sup) _ v
+
+same-length-2 : tie.Need-same-length-2
+same-length-2 c = search needs
+
+returns-2 : tie.Need-returns-2
+returns-2 c =
+    let s = c .before .before .before .before .before .before .before .before .before .before .before .before .before .before .before .before .before .before .before .before .before .before .before in
+    let a = s .args in
+    let w = now (a .image) in
+    let more = c .before .before .before .before .before .before .before .before .before .before .before .before .before .before .before .before .count-bounds .result in
+    let found = c .before .before .before .before .before .before .before .before .before .before .before .before .before .before .room-for-bound .result in
+    let q = c .before .before .before .before .before .before .before .before .before .before .before .before .before .before .room-for-bound .ensures (a .sup) lower (a .sub) (c .before .before .before .before .before .before .before .before .before .before .before .before .before .before .before .before .before .before .repeats-bound .ensures) in
+    let j = lower-joins w (a .sub) (a .sup) more found (c .before .before .before .before .before .before .before .before .before .before .before .before .before .before .before .before .count-bounds .ensures) q in
+    let v = then-advance (c .before .before .before .before .before .before .before .before .before .before .add-bound .ensures) (a .sub ⊑ a .sup) (c .before .before .before .before .before .before .advance .ensures) in
+    lower-joined w (a .sub) (a .sup) more found j (c .before .before .before .before .before .before .before .before .before .before .before .before .enum-told .given .1) _ _ v (c .before .before .put-bound-pairs .ensures)
+
+pub add-lower-bound-spec : {M : Type 1} → statement M
+add-lower-bound-spec =
+    tie.close
+    (tie.spec
+    bounds-count-requires
+    repeats-bound-requires
+    count-bounds-requires
+    room-for-bound-requires
+    enum-known-room
+    same-length
+    returns
+    enum-told
+    add-bound-requires
+    advance-requires
+    put-bound-pairs-requires
+    same-length-2
+    returns-2)

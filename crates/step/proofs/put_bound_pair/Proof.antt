@@ -1,0 +1,39 @@
+-- By the side of the bound.
+use native.Mathlib.Omega.{arith}
+use Rattle.step.proofs.Chains.{pair-lower, pair-upper}
+use borrow.Author.Needs.{needs}
+use Rattle.step.proofs.put_bound_pair.Statement.{statement}
+use Rattle.step.proofs.put_bound_pair.Tie as tie
+
+push-pending-requires : tie.Need-push-pending-requires
+push-pending-requires c κs = search needs
+
+push-pending-requires-2 : tie.Need-push-pending-requires-2
+push-pending-requires-2 c κs = search needs
+
+same-length : tie.Need-same-length
+same-length c = search needs
+
+returns : tie.Need-returns
+returns c =
+    let a = c .before .before .before .before .before .before .args in
+    pair-lower _ _ (a .side) (a .b) (a .x) (omega (arith, c .before .before .before .before .if1 .taken)) (c .before .before .push-pending .ensures)
+
+same-length-2 : tie.Need-same-length-2
+same-length-2 c = search needs
+
+returns-2 : tie.Need-returns-2
+returns-2 c =
+    let a = c .before .before .before .before .before .before .args in
+    pair-upper _ _ (a .side) (a .b) (a .x) (λ q. omega (arith, c .before .before .before .before .if1 .left, q)) (c .before .before .push-pending2 .ensures)
+
+pub put-bound-pair-spec : {M : Type 1} → statement M
+put-bound-pair-spec =
+    tie.close
+    (tie.spec
+    push-pending-requires
+    push-pending-requires-2
+    same-length
+    returns
+    same-length-2
+    returns-2)
