@@ -6,7 +6,7 @@ use model::Reply;
 ghost use Prim.Native.Nat.{_≤_};
 
 // A make's answer.
-pub fn made(tally: &mut [u32; 64], made: Made, expected: u32) {
+pub fn made(tally: &mut [u32; 96], made: Made, expected: u32) {
     match made {
         Made::Number(n) => expect(tally, b"number", expected, n),
         Made::Refused(r) => refused(tally, r),
@@ -14,7 +14,7 @@ pub fn made(tally: &mut [u32; 64], made: Made, expected: u32) {
 }
 
 // The answer of a call that has nothing to say.
-pub fn done(tally: &mut [u32; 64], reply: Reply) {
+pub fn done(tally: &mut [u32; 96], reply: Reply) {
     match reply {
         Reply::Done => {}
         Reply::Refused(r) => refused(tally, r),
@@ -22,7 +22,7 @@ pub fn done(tally: &mut [u32; 64], reply: Reply) {
 }
 
 // Tells a refusal.
-fn refused(tally: &mut [u32; 64], r: Refusal) {
+fn refused(tally: &mut [u32; 96], r: Refusal) {
     expect(tally, b"refusal", 0, refusal_number(r));
 }
 

@@ -10,7 +10,6 @@ use crate::tally::BOUND_VARIABLE;
 use crate::tally::ENTRY_LINES;
 use crate::tally::EQUAL_LINES;
 use crate::tally::MARKS;
-use crate::tally::RULES;
 use crate::tally::VISITED_LINES;
 use crate::tally::add;
 use crate::tally::expect;
@@ -33,8 +32,8 @@ const ATTRSET: u32 = 4;
 
 const NO_ENTRY: u32 = 99;
 
-// More bounds than the image takes.
-const BOUNDS_END: u32 = 80;
+// As many bounds as the image takes.
+const BOUNDS_END: u32 = 160;
 
 // An entry's words, but its spread.
 pub struct Node {
@@ -121,7 +120,7 @@ fn present(a: u32, b: u32, c: u32) -> Triple {
 }
 
 // How many entries, bounds and visited pairs there are after a question.
-pub fn counts(words: &[u32], tally: &mut [u32; 64], line: &[u32; 32]) {
+pub fn counts(words: &[u32], tally: &mut [u32; 96], line: &[u32; 32]) {
     expect(tally, b"entries", line[0], word(words, tables::ENTRIES));
     expect(tally, b"bounds", line[1], word(words, tables::BOUNDS));
     expect(
@@ -133,7 +132,7 @@ pub fn counts(words: &[u32], tally: &mut [u32; 64], line: &[u32; 32]) {
 }
 
 // A line of the table.
-pub fn shown(words: &[u32], tally: &mut [u32; 64], letter: u8, line: &[u32; 32], rest: &[u32]) {
+pub fn shown(words: &[u32], tally: &mut [u32; 96], letter: u8, line: &[u32; 32], rest: &[u32]) {
     match letter {
         b'L' => level(words, tally, line),
         b'E' => entry(words, tally, line, rest),
@@ -146,7 +145,7 @@ pub fn shown(words: &[u32], tally: &mut [u32; 64], letter: u8, line: &[u32; 32],
 }
 
 // The first line: the level, and the number of entries.
-fn level(words: &[u32], tally: &mut [u32; 64], line: &[u32; 32]) {
+fn level(words: &[u32], tally: &mut [u32; 96], line: &[u32; 32]) {
     tally[ENTRY_LINES] = 0;
     tally[BOUND_LINES] = 0;
     tally[VISITED_LINES] = 0;
@@ -157,7 +156,7 @@ fn level(words: &[u32], tally: &mut [u32; 64], line: &[u32; 32]) {
 }
 
 // An entry: flags, negation, kind, x, y, z; of an attrset x is left open, and its fields follow.
-fn entry(words: &[u32], tally: &mut [u32; 64], line: &[u32; 32], rest: &[u32]) {
+fn entry(words: &[u32], tally: &mut [u32; 96], line: &[u32; 32], rest: &[u32]) {
     let e = read_entry(words, tally[ENTRY_LINES]);
     add(tally, ENTRY_LINES, 1);
     add(tally, MARKS, e.flags % 2);
@@ -174,7 +173,7 @@ fn entry(words: &[u32], tally: &mut [u32; 64], line: &[u32; 32], rest: &[u32]) {
 }
 
 // An attrset's fields, from a record on: they stand behind x, y and z.
-fn fields(words: &[u32], tally: &mut [u32; 64], rest: &[u32], first: u32) {
+fn fields(words: &[u32], tally: &mut [u32; 96], rest: &[u32], first: u32) {
     if rest.len() < 3 {
         return;
     }
@@ -194,7 +193,7 @@ fn fields(words: &[u32], tally: &mut [u32; 64], rest: &[u32], first: u32) {
 }
 
 // A field.
-fn field(tally: &mut [u32; 64], r: Triple, name: u32, entry: u32, optional: u32) {
+fn field(tally: &mut [u32; 96], r: Triple, name: u32, entry: u32, optional: u32) {
     there(tally, r.there);
     expect(tally, b"field's name", name, r.a);
     expect(tally, b"field's entry", entry, r.b);
@@ -202,14 +201,14 @@ fn field(tally: &mut [u32; 64], r: Triple, name: u32, entry: u32, optional: u32)
 }
 
 // Tells that a record is not there.
-fn there(tally: &mut [u32; 64], is_there: bool) {
+fn there(tally: &mut [u32; 96], is_there: bool) {
     if !is_there {
         refuse(tally, b"the record is not there");
     }
 }
 
 // A bound. The Rust lists them by variable and side, ours stand in the order of adding: the next one of this variable and side.
-fn bound(words: &[u32], tally: &mut [u32; 64], line: &[u32; 32]) {
+fn bound(words: &[u32], tally: &mut [u32; 96], line: &[u32; 32]) {
     let from = first_of(tally, line[0], line[1]);
     let n = next_of(words, line[0], line[1], from);
     let r = read_record(words, BOUNDS, n);
@@ -222,7 +221,7 @@ fn bound(words: &[u32], tally: &mut [u32; 64], line: &[u32; 32]) {
 }
 
 // Where to look from: behind the last one of the same variable and side.
-fn first_of(tally: &[u32; 64], variable: u32, side: u32) -> u32 {
+fn first_of(tally: &[u32; 96], variable: u32, side: u32) -> u32 {
     if tally[BOUND_VARIABLE] != variable {
         return 0;
     }
@@ -250,7 +249,7 @@ fn is_of(r: Triple, variable: u32, side: u32) -> bool {
 }
 
 // A visited pair; the rule that worked it is counted.
-fn visited(words: &[u32], tally: &mut [u32; 64], line: &[u32; 32]) {
+fn visited(words: &[u32], tally: &mut [u32; 96], line: &[u32; 32]) {
     let r = read_record(words, VISITED, tally[VISITED_LINES]);
     add(tally, VISITED_LINES, 1);
     there(tally, r.there);
@@ -260,7 +259,7 @@ fn visited(words: &[u32], tally: &mut [u32; 64], line: &[u32; 32]) {
 }
 
 // A pair asked equal.
-fn equal(words: &[u32], tally: &mut [u32; 64], line: &[u32; 32]) {
+fn equal(words: &[u32], tally: &mut [u32; 96], line: &[u32; 32]) {
     let r = read_record(words, EQUALS, tally[EQUAL_LINES]);
     add(tally, EQUAL_LINES, 1);
     there(tally, r.there);
@@ -269,7 +268,7 @@ fn equal(words: &[u32], tally: &mut [u32; 64], line: &[u32; 32]) {
 }
 
 // The last line: each region has as many records as there were lines, and nothing is pending.
-fn end(words: &[u32], tally: &mut [u32; 64]) {
+fn end(words: &[u32], tally: &mut [u32; 96]) {
     let lines = tally[ENTRY_LINES];
     expect(tally, b"entries", lines, word(words, tables::ENTRIES));
     let lines = tally[BOUND_LINES];

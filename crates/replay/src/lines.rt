@@ -19,7 +19,7 @@ ghost use lib.ListN.{length};
 const UNREADABLE: usize = 33;
 
 // Runs every line.
-pub fn replay(text: &[u8], words: &mut [u32], tally: &mut [u32; 64]) {
+pub fn replay(text: &[u8], words: &mut [u32], tally: &mut [u32; 96]) {
     let mut at = 0;
     while at < text.len() {
         let end = line_end(text, at);
@@ -45,7 +45,7 @@ fn line_end(text: &[u8], from: usize) -> usize
 }
 
 // Runs a line.
-fn run(text: &[u8], words: &mut [u32], tally: &mut [u32; 64]) {
+fn run(text: &[u8], words: &mut [u32], tally: &mut [u32; 96]) {
     add(tally, LINES, 1);
     if text.len() == 0 {
         return;
@@ -138,7 +138,7 @@ fn wide(digit: u8) -> u32
 }
 
 // Does what a line says, or holds the image to it. Behind its third number a line may have fields.
-fn act(words: &mut [u32], tally: &mut [u32; 64], letter: u8, line: &[u32; 32], rest: &[u32]) {
+fn act(words: &mut [u32], tally: &mut [u32; 96], letter: u8, line: &[u32; 32], rest: &[u32]) {
     if is_make(letter) {
         return made(tally, make(words, letter, line, rest), line[0]);
     }
@@ -152,7 +152,7 @@ fn act(words: &mut [u32], tally: &mut [u32; 64], letter: u8, line: &[u32; 32], r
 }
 
 // Starts a script.
-fn begin(words: &mut [u32], tally: &mut [u32; 64], line: &[u32; 32]) {
+fn begin(words: &mut [u32], tally: &mut [u32; 96], line: &[u32; 32]) {
     add(tally, SCRIPTS, 1);
     done(
         tally,

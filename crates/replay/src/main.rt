@@ -19,13 +19,13 @@ const BLOCKS: u32 = 100;
 
 fn main() {
     let mut words = tables::room();
-    let mut tally = [0u32; 64];
+    let mut tally = [0u32; 96];
     replay_blocks(&mut words, &mut tally);
     tally::print_tally(&tally);
 }
 
 // Every block of the input.
-fn replay_blocks(words: &mut [u32], tally: &mut [u32; 64]) {
+fn replay_blocks(words: &mut [u32], tally: &mut [u32; 96]) {
     let mut left = BLOCKS;
     while left > 0 {
         replay_block(words, tally);
@@ -34,7 +34,7 @@ fn replay_blocks(words: &mut [u32], tally: &mut [u32; 64]) {
 }
 
 // A block of 65,536 bytes. No line goes over a block's end: empty lines fill a block up.
-fn replay_block(words: &mut [u32], tally: &mut [u32; 64]) {
+fn replay_block(words: &mut [u32], tally: &mut [u32; 96]) {
     let mut text = io::large_buffer();
     let size = io::read_full(STDIN_FILENO, &mut text);
     lines::replay(&text[..size], words, tally);

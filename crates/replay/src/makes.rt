@@ -42,7 +42,7 @@ fn dynamic(n: u32) -> Dynamic {
 }
 
 // Puts what a line says.
-pub fn put(words: &mut [u32], tally: &mut [u32; 64], letter: u8, line: &[u32; 32]) {
+pub fn put(words: &mut [u32], tally: &mut [u32; 96], letter: u8, line: &[u32; 32]) {
     match letter {
         b'm' => mark(words, tally, line[0]),
         b'b' => put_bound(words, tally, line),
@@ -53,13 +53,13 @@ pub fn put(words: &mut [u32], tally: &mut [u32; 64], letter: u8, line: &[u32; 32
 }
 
 // Marks an entry, and counts it if it was not marked.
-fn mark(words: &mut [u32], tally: &mut [u32; 64], n: u32) {
+fn mark(words: &mut [u32], tally: &mut [u32; 96], n: u32) {
     add(tally, MARKS_PUT, 1 - read_entry(words, n).flags % 2);
     done(tally, sheafwinch::mark(words, n));
 }
 
 // Puts a bound, and counts it if it is new.
-fn put_bound(words: &mut [u32], tally: &mut [u32; 64], line: &[u32; 32]) {
+fn put_bound(words: &mut [u32], tally: &mut [u32; 96], line: &[u32; 32]) {
     let before = word(words, tables::BOUNDS);
     done(
         tally,

@@ -38,7 +38,7 @@ struct Worked {
 }
 
 // A question: two entries, the limit, the steps, the answer, and the pair and the name that it has.
-pub fn question(words: &mut [u32], tally: &mut [u32; 64], letter: u8, line: &[u32; 32]) {
+pub fn question(words: &mut [u32], tally: &mut [u32; 96], letter: u8, line: &[u32; 32]) {
     add(tally, QUESTIONS, 1);
     done(tally, asked(words, letter, line[0], line[1]));
     let first = tally[QUESTIONS] % 4;
@@ -59,7 +59,7 @@ fn asked(words: &mut [u32], letter: u8, left: u32, right: u32) -> Reply {
 }
 
 // Works it.
-fn work_all(words: &mut [u32], tally: &mut [u32; 64], limit: u32, first: u32) -> Worked {
+fn work_all(words: &mut [u32], tally: &mut [u32; 96], limit: u32, first: u32) -> Worked {
     let mut w = Worked {
         answer: MORE,
         sub: 0,
@@ -91,7 +91,7 @@ fn least(a: u32, b: u32) -> u32 {
 }
 
 // One instalment more, unless the question has ended.
-fn work_on(words: &mut [u32], tally: &mut [u32; 64], w: Worked, budget: u32) -> Worked {
+fn work_on(words: &mut [u32], tally: &mut [u32; 96], w: Worked, budget: u32) -> Worked {
     if w.answer != MORE {
         return w;
     }
@@ -121,7 +121,7 @@ fn ended(answer: u32, sub: u32, sup: u32, name: u32, steps: u32) -> Worked {
 }
 
 // One that has not: the instalment made as many steps as it was given.
-fn stopped(tally: &mut [u32; 64], budget: u32, done: u32, steps: u32, left: u32) -> Worked {
+fn stopped(tally: &mut [u32; 96], budget: u32, done: u32, steps: u32, left: u32) -> Worked {
     expect(tally, b"steps of an instalment", budget, done);
     Worked {
         answer: MORE,
@@ -142,7 +142,7 @@ fn failed(f: Failure, steps: u32) -> Worked {
 }
 
 // Holds an answer to the Rust's.
-fn compare(tally: &mut [u32; 64], line: &[u32; 32], w: Worked) {
+fn compare(tally: &mut [u32; 96], line: &[u32; 32], w: Worked) {
     expect(tally, b"answer", line[4], w.answer);
     expect(tally, b"steps", line[3], w.steps);
     expect(tally, b"answer's sub", line[5], w.sub);
@@ -153,7 +153,7 @@ fn compare(tally: &mut [u32; 64], line: &[u32; 32], w: Worked) {
 }
 
 // Counts an answer.
-fn count_answer(tally: &mut [u32; 64], answer: u32) {
+fn count_answer(tally: &mut [u32; 96], answer: u32) {
     if answer < 4 {
         add(tally, ANSWERS + answer as usize, 1);
     }

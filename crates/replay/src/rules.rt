@@ -52,7 +52,7 @@ struct Parts {
     y: u32,
 }
 
-// Where the tally has each rule.
+// Where the tally has each rule. Where a rule has a left and a right case, the left one is there and the right one behind it.
 const VARIABLE_VARIABLE: usize = 24;
 
 const VARIABLE_CONCRETE: usize = 25;
@@ -85,44 +85,50 @@ const UNION_LEFT: usize = 38;
 
 const INTER_BOTH: usize = 39;
 
-const INTER_DISJOINT: usize = 40;
+const INTER_NONE: usize = 40;
 
-const INTER_SUP: usize = 41;
+const INTER_DISJOINT: usize = 41;
 
-const INTER_NEW: usize = 42;
+const INTER_SUP: usize = 43;
 
-const UNION_VARIABLES: usize = 43;
+const INTER_NEW: usize = 45;
 
-const UNION_COMPATIBLE: usize = 44;
+const UNION_VARIABLES: usize = 47;
 
-const UNION_VARIABLE: usize = 45;
+const COMPATIBLE_KIND: usize = 48;
 
-const UNION_DISJOINT: usize = 46;
+const COMPATIBLE_NAMED: usize = 50;
 
-const UNION_OTHER: usize = 47;
+const COMPATIBLE_FUNCTOR: usize = 52;
 
-const UNION_KIND: usize = 48;
+const NOT_COMPATIBLE: usize = 54;
 
-const UNION_BOTH: usize = 49;
+const UNION_DISJOINT: usize = 56;
 
-const FUNCTOR_LAMBDA: usize = 52;
+const UNION_OTHER: usize = 57;
 
-const MISMATCH: usize = 53;
+const UNION_KIND: usize = 59;
 
-const FIELD_SAME: usize = 54;
+const UNION_BOTH: usize = 61;
 
-const FIELD_DYNAMIC: usize = 55;
+const FUNCTOR_LAMBDA: usize = 62;
 
-const FIELD_OPEN: usize = 56;
+const MISMATCH: usize = 63;
 
-const FIELD_OPTIONAL: usize = 57;
+const FIELD_SAME: usize = 64;
 
-const FIELD_MISSING: usize = 58;
+const FIELD_DYNAMIC: usize = 65;
 
-const DYNAMICS: usize = 59;
+const FIELD_OPEN: usize = 66;
+
+const FIELD_OPTIONAL: usize = 67;
+
+const FIELD_MISSING: usize = 68;
+
+const DYNAMICS: usize = 69;
 
 // Counts the rule of a pair, and of attrsets how sup's fields are met.
-pub fn count(words: &[u32], tally: &mut [u32; 64], sub: u32, sup: u32) {
+pub fn count(words: &[u32], tally: &mut [u32; 96], sub: u32, sup: u32) {
     let a = read_entry(words, sub);
     let b = read_entry(words, sup);
     let rule = rule_of(words, sub, sup, a, b);
@@ -240,14 +246,18 @@ fn other(words: &[u32], sub: u32, sup: u32, a: Node, b: Node) -> usize {
 fn inter_left(words: &[u32], x: u32, y: u32, sup: u32) -> usize {
     let is_x = is_chosen(words, x, y);
     let is_y = is_chosen(words, y, x);
-    if is_x == is_y {
+    if is_x & is_y {
         return INTER_BOTH;
     }
     if is_x {
-        inter_one(words, y, sup)
-    } else {
-        inter_one(words, x, sup)
+        return inter_one(words, y, sup);
     }
+    if is_y { right(inter_one(words, x, sup)) } else { INTER_NONE }
+}
+
+// The right case of a rule.
+fn right(rule: usize) -> usize {
+    if rule < 96 { rule + 1 } else { rule }
 }
 
 // Whether a side is chosen.
@@ -337,32 +347,23 @@ fn union_right(words: &[u32], sub: u32, a: Node, x: u32, y: u32) -> usize {
         return UNION_VARIABLES;
     }
     if is_x {
-        return union_one(words, a, y);
+        return right(compatible(words, a, read_entry(words, y)));
     }
     if is_y {
-        return union_one(words, a, x);
+        return compatible(words, a, read_entry(words, x));
     }
     union_none(words, sub, a, x, y)
 }
 
-// With one variable, n the other side.
-fn union_one(words: &[u32], a: Node, n: u32) -> usize {
-    if is_compatible(words, a, read_entry(words, n)) {
-        UNION_COMPATIBLE
-    } else {
-        UNION_VARIABLE
-    }
-}
-
-// Whether an entry is compatible with a concrete one.
-fn is_compatible(words: &[u32], a: Node, b: Node) -> bool {
+// Why an entry is compatible with the concrete side, or that it is not.
+fn compatible(words: &[u32], a: Node, b: Node) -> usize {
     if b.kind == NAMED {
-        return true;
+        return COMPATIBLE_NAMED;
     }
     if a.kind == b.kind {
-        return true;
+        return COMPATIBLE_KIND;
     }
-    is_functor(words, a, b)
+    if is_functor(words, a, b) { COMPATIBLE_FUNCTOR } else { NOT_COMPATIBLE }
 }
 
 // With no variable.
@@ -372,16 +373,18 @@ fn union_none(words: &[u32], sub: u32, a: Node, x: u32, y: u32) -> usize {
     if far_x & far_y {
         return UNION_DISJOINT;
     }
-    if far_x | far_y {
+    if far_y {
         return UNION_OTHER;
+    }
+    if far_x {
+        return right(UNION_OTHER);
     }
     let like_x = a.kind == read_entry(words, x).kind;
     let like_y = a.kind == read_entry(words, y).kind;
     if like_x == like_y {
-        UNION_BOTH
-    } else {
-        UNION_KIND
+        return UNION_BOTH;
     }
+    if like_x { UNION_KIND } else { right(UNION_KIND) }
 }
 
 // Whether an attrset with a functor meets a lambda.
@@ -412,7 +415,7 @@ fn has_field(words: &[u32], first: u32, size: u32, name: u32) -> bool {
 }
 
 // How sup's fields are met, up to one that is missing, and whether both have a dynamic type.
-fn count_fields(words: &[u32], tally: &mut [u32; 64], a: Node, b: Node) {
+fn count_fields(words: &[u32], tally: &mut [u32; 96], a: Node, b: Node) {
     let size = b.y;
     let mut i: u32 = 0;
     while i < size {

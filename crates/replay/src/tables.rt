@@ -18,20 +18,20 @@ pub const PENDING: usize = 23;
 pub const EQUALS: usize = 26;
 
 // The words, before a script starts.
-pub fn room() -> [u32; 2083]
-    ensures { λ r. ⌜ 2083 ≡ length r ⌝ }
+pub fn room() -> [u32; 3243]
+    ensures { λ r. ⌜ 3243 ≡ length r ⌝ }
 {
-    [7u32; 2083]
+    [7u32; 3243]
 }
 
 // How many records each region takes.
 pub fn capacities() -> image::Capacities {
     image::Capacities {
-        entries: 120,
-        fields: 80,
-        bounds: 80,
-        visited: 160,
-        pending: 200,
+        entries: 200,
+        fields: 120,
+        bounds: 160,
+        visited: 240,
+        pending: 240,
         equals: 8,
     }
 }

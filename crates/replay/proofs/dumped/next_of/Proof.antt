@@ -8,7 +8,7 @@ abbrev Inv-loop : tie.InvT-loop
 Inv-loop words variable side from n₀ n = Unit {0}
 
 abbrev μ-loop : tie.MeasureT-loop
-μ-loop words variable side from n₀ n = 80 - n
+μ-loop words variable side from n₀ n = 160 - n
 
 loop-holds : tie.Need-loop-holds Inv-loop μ-loop
 loop-holds c = search needs
