@@ -252,7 +252,11 @@ fn inter_left(words: &[u32], x: u32, y: u32, sup: u32) -> usize {
     if is_x {
         return inter_one(words, y, sup);
     }
-    if is_y { right(inter_one(words, x, sup)) } else { INTER_NONE }
+    if is_y {
+        right(inter_one(words, x, sup))
+    } else {
+        INTER_NONE
+    }
 }
 
 // The right case of a rule.
@@ -333,10 +337,17 @@ fn is_found(words: &[u32], n: u32, search: u32, m: u32) -> bool {
 // named one in all but that for a disjoint one.
 fn parts_of(search: u32, e: Node) -> Parts {
     if e.kind == NAMED {
-        return Parts { x: if search == FOR_DISJOINT { NONE } else { e.x }, y: NONE };
+        return Parts {
+            x: if search == FOR_DISJOINT { NONE } else { e.x },
+            y: NONE,
+        };
     }
     let through = if search == FOR_MEMBER { UNION } else { INTER };
-    if e.kind == through { Parts { x: e.x, y: e.y } } else { Parts { x: NONE, y: NONE } }
+    if e.kind == through {
+        Parts { x: e.x, y: e.y }
+    } else {
+        Parts { x: NONE, y: NONE }
+    }
 }
 
 // Of a union on the right.
@@ -363,7 +374,11 @@ fn compatible(words: &[u32], a: Node, b: Node) -> usize {
     if a.kind == b.kind {
         return COMPATIBLE_KIND;
     }
-    if is_functor(words, a, b) { COMPATIBLE_FUNCTOR } else { NOT_COMPATIBLE }
+    if is_functor(words, a, b) {
+        COMPATIBLE_FUNCTOR
+    } else {
+        NOT_COMPATIBLE
+    }
 }
 
 // With no variable.
@@ -384,7 +399,11 @@ fn union_none(words: &[u32], sub: u32, a: Node, x: u32, y: u32) -> usize {
     if like_x == like_y {
         return UNION_BOTH;
     }
-    if like_x { UNION_KIND } else { right(UNION_KIND) }
+    if like_x {
+        UNION_KIND
+    } else {
+        right(UNION_KIND)
+    }
 }
 
 // Whether an attrset with a functor meets a lambda.

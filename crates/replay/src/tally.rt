@@ -182,20 +182,56 @@ fn print_inters(tally: &[u32; 96]) {
     print_count(b"union on the left", tally[38]);
     print_count(b"inter on the left, both chosen", tally[39]);
     print_count(b"inter on the left, none chosen", tally[40]);
-    print_two(b"inter on the left, one chosen, mismatch", tally[41], tally[42]);
-    print_two(b"inter on the left, one chosen, target is sup", tally[43], tally[44]);
-    print_two(b"inter on the left, one chosen, target is new", tally[45], tally[46]);
+    print_two(
+        b"inter on the left, one chosen, mismatch",
+        tally[41],
+        tally[42],
+    );
+    print_two(
+        b"inter on the left, one chosen, target is sup",
+        tally[43],
+        tally[44],
+    );
+    print_two(
+        b"inter on the left, one chosen, target is new",
+        tally[45],
+        tally[46],
+    );
 }
 
 // The rules with a union on the right. With one variable, the concrete side; else the side that is taken.
 fn print_unions(tally: &[u32; 96]) {
     print_count(b"union on the right, both variables", tally[47]);
-    print_two(b"union on the right, one variable, same kind", tally[48], tally[49]);
-    print_two(b"union on the right, one variable, named", tally[50], tally[51]);
-    print_two(b"union on the right, one variable, functor", tally[52], tally[53]);
-    print_two(b"union on the right, one variable, not compatible", tally[54], tally[55]);
+    print_two(
+        b"union on the right, one variable, same kind",
+        tally[48],
+        tally[49],
+    );
+    print_two(
+        b"union on the right, one variable, named",
+        tally[50],
+        tally[51],
+    );
+    print_two(
+        b"union on the right, one variable, functor",
+        tally[52],
+        tally[53],
+    );
+    print_two(
+        b"union on the right, one variable, not compatible",
+        tally[54],
+        tally[55],
+    );
     print_count(b"union on the right, both disjoint, mismatch", tally[56]);
-    print_two(b"union on the right, one not disjoint", tally[57], tally[58]);
-    print_two(b"union on the right, one of the same kind", tally[59], tally[60]);
+    print_two(
+        b"union on the right, one not disjoint",
+        tally[57],
+        tally[58],
+    );
+    print_two(
+        b"union on the right, one of the same kind",
+        tally[59],
+        tally[60],
+    );
     print_count(b"union on the right, both", tally[61]);
 }
