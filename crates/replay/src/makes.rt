@@ -1,0 +1,70 @@
+// The lines that make an entry, or put a mark, a bound or a level.
+use crate::compared::done;
+use crate::dumped::read_entry;
+use crate::tables;
+use crate::tables::word;
+use crate::tally::BOUNDS_PUT;
+use crate::tally::MARKS_PUT;
+use crate::tally::add;
+use model::Dynamic;
+use model::Made;
+
+// Whether a line makes an entry.
+pub fn is_make(letter: u8) -> bool {
+    match letter {
+        b'v' | b'p' | b'l' | b'f' | b't' | b'd' | b'g' | b'i' | b'u' => true,
+        _ => false,
+    }
+}
+
+// Makes an entry. The line's first number is that of the entry, the others are what it is made of.
+pub fn make(words: &mut [u32], letter: u8, line: &[u32; 32], rest: &[u32]) -> Made {
+    match letter {
+        b'v' => sheafwinch::make_variable(words),
+        b'p' => sheafwinch::make_primitive(words, line[1]),
+        b'l' => sheafwinch::make_list(words, line[1]),
+        b'f' => sheafwinch::make_lambda(words, line[1], line[2]),
+        b't' => sheafwinch::make_attrset(words, rest, line[1] != 0, dynamic(line[2])),
+        b'd' => sheafwinch::make_named(words, line[1], line[2]),
+        b'g' => sheafwinch::make_neg(words, line[1]),
+        b'i' => sheafwinch::make_inter(words, line[1], line[2]),
+        _ => sheafwinch::make_union(words, line[1], line[2]),
+    }
+}
+
+// A dynamic type, told by its number plus 1, or 0.
+fn dynamic(n: u32) -> Dynamic {
+    if n == 0 {
+        Dynamic::Absent
+    } else {
+        Dynamic::Present(n - 1)
+    }
+}
+
+// Puts what a line says.
+pub fn put(words: &mut [u32], tally: &mut [u32; 96], letter: u8, line: &[u32; 32]) {
+    match letter {
+        b'm' => mark(words, tally, line[0]),
+        b'b' => put_bound(words, tally, line),
+        b's' => done(tally, sheafwinch::set_level(words, line[0], line[1])),
+        b'+' => done(tally, sheafwinch::enter(words)),
+        _ => done(tally, sheafwinch::exit(words)),
+    }
+}
+
+// Marks an entry, and counts it if it was not marked.
+fn mark(words: &mut [u32], tally: &mut [u32; 96], n: u32) {
+    add(tally, MARKS_PUT, 1 - read_entry(words, n).flags % 2);
+    done(tally, sheafwinch::mark(words, n));
+}
+
+// Puts a bound, and counts it if it is new.
+fn put_bound(words: &mut [u32], tally: &mut [u32; 96], line: &[u32; 32]) {
+    let before = word(words, tables::BOUNDS);
+    done(
+        tally,
+        sheafwinch::put_bound(words, line[0], line[1], line[2]),
+    );
+    let after = word(words, tables::BOUNDS);
+    add(tally, BOUNDS_PUT, std::num::wrapping_sub_u32(after, before));
+}

@@ -1,0 +1,42 @@
+// The image that every script is run in, and its header's words.
+ghost use mathlib.Core.Path.{_≡_};
+ghost use lib.ListN.{length};
+
+// Where the header has the state, the level, and the counts of the regions.
+pub const STATE: usize = 1;
+
+pub const LEVEL: usize = 6;
+
+pub const ENTRIES: usize = 11;
+
+pub const BOUNDS: usize = 17;
+
+pub const VISITED: usize = 20;
+
+pub const PENDING: usize = 23;
+
+pub const EQUALS: usize = 26;
+
+// The words, before a script starts.
+pub fn room() -> [u32; 3243]
+    ensures { λ r. ⌜ 3243 ≡ length r ⌝ }
+{
+    [7u32; 3243]
+}
+
+// How many records each region takes.
+pub fn capacities() -> image::Capacities {
+    image::Capacities {
+        entries: 200,
+        fields: 120,
+        bounds: 160,
+        visited: 240,
+        pending: 240,
+        equals: 8,
+    }
+}
+
+// A word, or 0 past the last.
+pub fn word(words: &[u32], at: usize) -> u32 {
+    if at < words.len() { words[at] } else { 0 }
+}
