@@ -5,12 +5,8 @@ use model::Record;
 ghost use mathlib.Core.Path.{_≡_};
 ghost use lib.ListN.{length};
 
-// The variable, the side, and the region of the bounds.
+// The variable, by its number.
 const VARIABLE: u32 = 0;
-
-const LOWER: u32 = 0;
-
-const BOUNDS: u32 = 3;
 
 // How many bounds the image takes.
 const BOUNDS_ROOM: u32 = 36;
@@ -61,14 +57,14 @@ fn make_entries(words: &mut [u32]) {
 fn put_bounds(words: &mut [u32]) {
     let mut bound: u32 = 1;
     while bound <= 32 {
-        sheafwinch::put_bound(words, VARIABLE, LOWER, bound);
+        sheafwinch::put_bound(words, VARIABLE, image::LOWER, bound);
         bound += 1;
     }
 }
 
 // Puts a lower bound, and tells how many there are then.
 fn print_put(words: &mut [u32], bound: u32) {
-    sheafwinch::put_bound(words, VARIABLE, LOWER, bound);
+    sheafwinch::put_bound(words, VARIABLE, image::LOWER, bound);
     print(b"Then ");
     print_number(bound);
     print(b": ");
@@ -95,7 +91,7 @@ fn count_bounds(words: &[u32]) -> u32 {
 
 // Whether there is a bound n.
 fn is_bound(words: &[u32], n: u32) -> bool {
-    match sheafwinch::record(words, BOUNDS, n) {
+    match sheafwinch::record(words, image::BOUNDS, n) {
         Record::Refused(_) => false,
         _ => true,
     }
