@@ -37,7 +37,7 @@ pub struct Capacities {
     pub equals: u32,
 }
 
-// The numbers of the format and its limits, as in the model's Format: each stands here, and in code nowhere else.
+// The numbers of the format and its limits, as in the model's Format: the crates above have them from here.
 
 // Where the header has each word: the first nine, then offset, capacity and count of each region. It has 27.
 pub const FORMAT_AT: usize = 0;
