@@ -7,11 +7,11 @@ use telling::print_number;
 use telling::print_pair;
 
 // Regions.
-const ENTRIES: u32 = 1;
+const ENTRIES: u32 = image::ENTRIES;
 
-pub const BOUNDS: u32 = 3;
+pub const BOUNDS: u32 = image::BOUNDS;
 
-const VISITED: u32 = 4;
+const VISITED: u32 = image::VISITED;
 
 // How many entries the table has before a question.
 const TABLE: u32 = 15;

@@ -6,10 +6,8 @@ use telling::print_number;
 ghost use mathlib.Core.Path.{_≡_};
 ghost use lib.ListN.{length};
 
-// The variable, and the side.
+// The variable, by its number.
 const VARIABLE: u32 = 0;
-
-const LOWER: u32 = 0;
 
 // How many bounds there are with bounds 1 to 32, and after each further one.
 pub fn print_counts() {
@@ -59,16 +57,13 @@ fn make_entries(words: &mut [u32]) {
 fn put_bounds(words: &mut [u32]) {
     let mut bound: u32 = 1;
     while bound <= 32 {
-        sheafwinch::put_bound(words, VARIABLE, LOWER, bound);
+        sheafwinch::put_bound(words, VARIABLE, image::LOWER, bound);
         bound += 1;
     }
 }
 
 // Puts a lower bound, and tells how many there are then.
 fn print_put(words: &mut [u32], bound: u32) {
-    sheafwinch::put_bound(words, VARIABLE, LOWER, bound);
-    print(b"; then ");
-    print_number(bound);
-    print(b": ");
-    print_number(count(words, BOUNDS));
+// The variable, by its number.
+const VARIABLE: u32 = 0;
 }

@@ -10,16 +10,13 @@ ghost use lib.ListN.{length};
 // How many words there are at most.
 const MOST_WORDS: usize = 200;
 
-// What word 0 of an image is.
-const FORMAT: u32 = 1;
-
 // How many lengths are refused, of words at random and of these with the format word right.
 pub fn print_counts() {
     print(b"Lengths from 0 to 200 of words at random that are refused 1: ");
     let mut words = random();
     print_number(count_refused(&words, MOST_WORDS));
     print(b", and with word 0 right: ");
-    words[0] = FORMAT;
+    words[image::FORMAT_AT] = image::FORMAT;
     print_number(count_refused(&words, MOST_WORDS));
     print(b"\n");
 }

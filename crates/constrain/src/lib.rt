@@ -21,21 +21,6 @@ ghost use Rattle.constrain.specs.Fields.{askOf, askDynamic, bothDynamic,
 ghost use Rattle.constrain.specs.Decide.{Fits, armIn};
 ghost use Rattle.constrain.specs.Next.{Comes, ComesUnder, ComesOf, wordsAt, lambdaOf};
 
-// Where an entry has its kind and its components, and a field record its words.
-const KIND: usize = 0;
-
-const X: usize = 1;
-
-const Y: usize = 2;
-
-const NAME: usize = 0;
-
-const FIELD_ENTRY: usize = 1;
-
-const OPTIONAL: usize = 2;
-
-const VARIABLE: u32 = 0;
-
 // The consequences of a pair, the first to be worked first.
 pub enum Pairs {
     Nothing,
@@ -146,7 +131,7 @@ fn is_var(image: &[u32], n: u32) -> bool
     requires { ⌜ n < length (entriesOf (now image)) ⌝ }
     ensures { λ r. ⌜ r ≡ isAt (entriesOf (now (image .entry))) variable n ⌝ }
 {
-    image::entry_word(image, n, KIND) == VARIABLE
+    image::entry_word(image, n, image::KIND_WORD) == image::VARIABLE
 }
 
 // The words of entry n.
@@ -155,9 +140,9 @@ fn words_of(image: &[u32], n: u32) -> Words
     requires { ⌜ n < length (entriesOf (now image)) ⌝ }
     ensures { λ r. ⌜ r ≡ wordsAt (entryAt (entriesOf (now (image .entry))) n) ⌝ }
 {
-    let kind = image::entry_word(image, n, KIND);
-    let x = image::entry_word(image, n, X);
-    let y = image::entry_word(image, n, Y);
+    let kind = image::entry_word(image, n, image::KIND_WORD);
+    let x = image::entry_word(image, n, image::X_WORD);
+    let y = image::entry_word(image, n, image::Y_WORD);
     Words { kind, x, y }
 }
 
@@ -174,7 +159,7 @@ fn asks_dynamic(image: &[u32], a: Attrset, j: u32) -> Ask
     if a.is_open {
         return Ask::Nothing;
     }
-    if image::field_word(image, j, OPTIONAL) == 0 {
+    if image::field_word(image, j, image::OPTIONAL_WORD) == 0 {
         return Ask::Missing;
     }
     Ask::Nothing
@@ -187,10 +172,10 @@ pub fn asks(image: &[u32], a: Attrset, j: u32) -> Ask
     requires { ⌜ j < length (fieldsIn (now image)) ⌝ }
     ensures { λ r. ⌜ r ≡ askOf a (fieldsHeld (fieldsIn (now (image .entry))) a) (fieldAt (fieldsIn (now (image .entry))) j) ⌝ }
 {
-    let name = image::field_word(image, j, NAME);
+    let name = image::field_word(image, j, image::NAME_WORD);
     let found = disjoint::field_named(image, a.first, a.count, name);
     match found {
-        Found::At(i) => Ask::Under(image::field_word(image, i, FIELD_ENTRY)),
+        Found::At(i) => Ask::Under(image::field_word(image, i, image::ENTRY_WORD)),
         Found::Nothing => asks_dynamic(image, a, j),
     }
 }
@@ -226,7 +211,7 @@ fn gather(image: &[u32], a: Attrset, b: Attrset) -> Next
             }
             Ask::Nothing => {}
             Ask::Missing => {
-                return Next::Missing(image::field_word(image, j, NAME));
+                return Next::Missing(image::field_word(image, j, image::NAME_WORD));
             }
         }
         j += 1;
@@ -332,7 +317,7 @@ fn discriminant_matches(image: &[u32], a: u32, b: u32) -> bool
     requires { ⌜ b < length (entriesOf (now image)) ⌝ }
     ensures { λ r. ⌜ r ≡ isAt (entriesOf (now (image .entry))) (entryAt (entriesOf (now (image .entry))) a .kind) b ⌝ }
 {
-    image::entry_word(image, b, KIND) == image::entry_word(image, a, KIND)
+    image::entry_word(image, b, image::KIND_WORD) == image::entry_word(image, a, image::KIND_WORD)
 }
 
 // A union of which neither side is disjoint from sub: the one of the same kind if only one is, else both.
@@ -407,7 +392,7 @@ fn constrain_functor(image: &[u32], sub: u32, param: u32, body: u32) -> Next
     let found = disjoint::functor_of(image, sub);
     match found {
         Found::At(i) => Next::Functor {
-            field: image::field_word(image, i, FIELD_ENTRY),
+            field: image::field_word(image, i, image::ENTRY_WORD),
             param,
             body,
         },

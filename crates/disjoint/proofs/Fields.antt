@@ -11,12 +11,11 @@ use lib.Seq.{drop-cons}
 use lib.Dec.{eqb}
 use borrow.Author.Tests.{eq-eqb, ne-eqb, eqb-true}
 use Rattle.model.specs.Lists.{isSome, any}
-use Rattle.model.specs.Format.{functorAt, fieldsMost, attrset}
+use Rattle.model.specs.Format.{fieldsMost, attrset}
 use Rattle.model.specs.Table.{Entry, Field, Store, is}
-use Rattle.model.specs.Image.{word, table}
 use Rattle.model.specs.Shapes.{fieldsOf, fieldNamed, functorIn, functorOf, hasFunctor}
 use Rattle.image.specs.Laid.{Laid}
-use Rattle.image.specs.Shown.{storeOf, fieldsIn}
+use Rattle.image.specs.Shown.{fieldsIn}
 use Rattle.image.specs.Records.{fieldAt}
 use Rattle.image.proofs.Reading.{fields-count}
 use Rattle.disjoint.specs.declared.Found.{Found}
@@ -113,20 +112,19 @@ module _ (fs : List Field) where
   functor-number-inside first count zero h = tt
   functor-number-inside first count (suc name) h = named-inside first count name h
 
--- word 8 tells the name
+-- the functor word tells the name
 numbered : (fs : List Field) (first count word : ℕ) → (word ≡ 0 → ⊥) → numberNamed fs first count (word - 1) ≡ functorNumber fs first count word
 unfolding functorNumber
 numbered fs first count zero n = absurd (n refl)
 numbered fs first count (suc name) n = let q : suc name - 1 ≡ name = omega arith in rw q
 
-module _ (w : List ℕ) (first count : ℕ) where
-  pub unset : word w functorAt ≡ 0 → Nothing ≡ functorNumber (fieldsIn w) first count (storeOf w .functor)
-  unfolding functorNumber table
-  unset q = rw q
+module _ (fs : List Field) (first count r word : ℕ) (read : r ≡ word) where
+  pub unset : r ≡ 0 → Nothing ≡ functorNumber fs first count word
+  unfolding functorNumber
+  unset q = rw (sym read ∙ q)
 
-  pub set : (word w functorAt ≡ 0 → ⊥) → numberNamed (fieldsIn w) first count (word w functorAt - 1) ≡ functorNumber (fieldsIn w) first count (storeOf w .functor)
-  unfolding table
-  set n = numbered (fieldsIn w) first count (word w functorAt) n
+  pub set : (r ≡ 0 → ⊥) → numberNamed fs first count (r - 1) ≡ functorNumber fs first count word
+  set n = numbered fs first count r n ∙ ap (functorNumber fs first count) read
 
 -- the functor of an entry whose fields, if it is an attrset, are there
 module _ (s : Store) (e : Entry) (h : e .kind ≡ attrset → e .x + e .y ≤ length (s .fields)) where

@@ -15,19 +15,6 @@ ghost use Rattle.image.specs.Records.{fieldAt};
 ghost use Rattle.disjoint.specs.Fields.{Inside, fieldsHeld, numberNamed, functorNumber, functorRecord, isFound};
 ghost use Rattle.disjoint.specs.Shapes.{shapeOf, ShapeInside, lacksSome, closedLacksIn, attrsetsDisjointIn, callable, shapesDisjoint};
 
-// Where the header has the number of `__functor` plus 1, or 0.
-const FUNCTOR: usize = 8;
-
-const LAMBDA: u32 = 3;
-
-const NAMED: u32 = 5;
-
-const INT: u32 = 2;
-
-const FLOAT: u32 = 3;
-
-const NUMBER: u32 = 7;
-
 // A field record by its number, if there is one.
 pub enum Found {
     At(u32),
@@ -63,7 +50,7 @@ pub fn field_named(image: &[u32], first: u32, count: u32, name: u32) -> Found
     let end = first + count;
     let mut i = first;
     while i < end {
-        if image::field_word(image, i, 0) == name {
+        if image::field_word(image, i, image::NAME_WORD) == name {
             return Found::At(i);
         }
         i += 1;
@@ -77,7 +64,7 @@ fn functor_among(image: &[u32], first: u32, count: u32) -> Found
     requires { ⌜ first + count ≤ length (fieldsIn (now image)) ⌝ }
     ensures { λ r. ⌜ r ≡ functorNumber (fieldsIn (now (image .entry))) first count (storeOf (now (image .entry)) .functor) ⌝ }
 {
-    let word = image[FUNCTOR];
+    let word = image::functor(image);
     if word == 0 {
         return Found::Nothing;
     }
@@ -124,10 +111,10 @@ fn lacks_field(image: &[u32], a: Attrset, j: u32) -> bool
     requires { ⌜ j < length (fieldsIn (now image)) ⌝ }
     ensures { λ r. ⌜ r ≡ lacksField (fieldsHeld (fieldsIn (now (image .entry))) a) (fieldAt (fieldsIn (now (image .entry))) j) ⌝ }
 {
-    if image::field_word(image, j, 2) != 0 {
+    if image::field_word(image, j, image::OPTIONAL_WORD) != 0 {
         return false;
     }
-    let name = image::field_word(image, j, 0);
+    let name = image::field_word(image, j, image::NAME_WORD);
     !is_found(field_named(image, a.first, a.count, name))
 }
 
@@ -179,11 +166,11 @@ fn attrsets_disjoint(image: &[u32], a: Attrset, b: Attrset) -> bool
 fn is_subtype_of(p: u32, q: u32) -> bool
     ensures { λ r. ⌜ r ≡ underNumber p q ⌝ }
 {
-    if q == NUMBER {
-        if p == INT {
+    if q == image::NUMBER {
+        if p == image::INT {
             return true;
         }
-        return p == FLOAT;
+        return p == image::FLOAT;
     }
     false
 }
@@ -280,14 +267,14 @@ pub fn compatible(image: &[u32], a: u32, b: u32) -> bool
     requires { ⌜ b < length (entriesOf (now image)) ⌝ }
     ensures { λ r. ⌜ r ≡ couldBeUnder (storeOf (now (image .entry))) (entryAt (entriesOf (now (image .entry))) a) (entryAt (entriesOf (now (image .entry))) b) ⌝ }
 {
-    let target = image::entry_word(image, b, 0);
-    if image::entry_word(image, a, 0) == target {
+    let target = image::entry_word(image, b, image::KIND_WORD);
+    if image::entry_word(image, a, image::KIND_WORD) == target {
         return true;
     }
-    if target == NAMED {
+    if target == image::NAMED {
         return true;
     }
-    if target == LAMBDA {
+    if target == image::LAMBDA {
         return has_functor(image, a);
     }
     false

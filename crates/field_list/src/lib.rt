@@ -7,9 +7,6 @@ ghost use Rattle.model.specs.Lists.{all};
 ghost use Rattle.model.specs.Format.{wordEnd};
 ghost use Rattle.model.specs.Calls.{fieldList, fieldsListed};
 
-// Optional is 0 or 1.
-const OPTIONAL: u32 = 1;
-
 // A word as a length.
 fn wide(x: u32) -> usize
     ensures { λ r. ⌜ (r ≡ x) × (r < wordEnd) ⌝ }
@@ -30,7 +27,7 @@ pub fn listed(names: u32, fields: &[u32]) -> bool
         let at = image::FIELD_WIDTH * i;
         let name = fields[at];
         let optional = fields[at + 2];
-        ok = ok & ((least <= wide(name)) & (name < names) & (optional <= OPTIONAL));
+        ok = ok & ((least <= wide(name)) & (name < names) & (optional <= image::OPTIONAL));
         least = wide(name) + 1;
         i += 1;
     }

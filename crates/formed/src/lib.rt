@@ -17,104 +17,21 @@ ghost use Rattle.image.specs.Shown.{storeOf, entriesOf, fieldsIn, boundsAll};
 ghost use Rattle.image.specs.Records.{fieldAt, boundAt};
 ghost use Rattle.formed.specs.Grouped.{headerRight, regionLaid, regionsLaid, RegionInside, restsZero, entryTold, ownRight, entryRightIn};
 
-// The header's words, by their places. Region k, from 1, has its offset, capacity and count at 6, 7 and 8 + 3k.
-const FORMAT_AT: usize = 0;
+// The regions, as lengths. Region k has its offset, capacity and count at 6, 7 and 8 + 3k.
+const ENTRIES: usize = image::ENTRIES as usize;
 
-const STATE_AT: usize = 1;
+const FIELDS: usize = image::FIELDS as usize;
 
-const BREAK_KIND_AT: usize = 2;
+const BOUNDS: usize = image::BOUNDS as usize;
 
-const BREAK_SUB_AT: usize = 3;
+const VISITED: usize = image::VISITED as usize;
 
-const BREAK_SUP_AT: usize = 4;
+const PENDING: usize = image::PENDING as usize;
 
-const BREAK_NAME_AT: usize = 5;
+const EQUALS: usize = image::EQUALS as usize;
 
-const NAMES_AT: usize = 7;
-
-const FUNCTOR_AT: usize = 8;
-
-const ENTRIES_COUNT_AT: usize = 11;
-
-const FIELDS_COUNT_AT: usize = 14;
-
-const BOUNDS_COUNT_AT: usize = 17;
-
-const PENDING_COUNT_AT: usize = 23;
-
-// The regions, and the most records that each may have.
-const ENTRIES: usize = 1;
-
-const FIELDS: usize = 2;
-
-const BOUNDS: usize = 3;
-
-const VISITED: usize = 4;
-
-const PENDING: usize = 5;
-
-const EQUALS: usize = 6;
-
-const ENTRIES_MOST: u32 = 4096;
-
-const FIELDS_MOST: u32 = 16384;
-
-const BOUNDS_MOST: u32 = 65536;
-
-const VISITED_MOST: u32 = 65536;
-
-const PENDING_MOST: u32 = 65536;
-
-const EQUALS_MOST: u32 = 65536;
-
-// What the header may say.
-const FORMAT: u32 = 1;
-
-const IDLE: u32 = 0;
-
-const ASKED: u32 = 1;
-
-const UNBROKEN: u32 = 0;
-
-const MISMATCHED: u32 = 1;
-
-const FIELD_MISSING: u32 = 2;
-
-const NAMES_MOST: u32 = 4096;
-
-// What an entry's words may say: its kind, the last primitive, its flags and spread.
-const KIND_WORD: usize = 0;
-
-const SPREAD_WORD: usize = 5;
-
-const VARIABLE: u32 = 0;
-
-const PRIMITIVE: u32 = 1;
-
-const LIST: u32 = 2;
-
-const LAMBDA: u32 = 3;
-
-const ATTRSET: u32 = 4;
-
-const NAMED: u32 = 5;
-
-const NEG: u32 = 6;
-
-const INTER: u32 = 7;
-
-const UNION: u32 = 8;
-
-const NUMBER: u32 = 7;
-
-const MARK_FLAG: u32 = 1;
-
-const ATTRSET_FLAGS: u32 = MARK_FLAG + image::OPEN_FLAG + image::DYNAMIC_FLAG;
-
-const SPREAD_MOST: u32 = 1024;
-
-// A bound's upper side.
-const UPPER: u32 = 1;
+// All flags of an attrset.
+const ATTRSET_FLAGS: u32 = image::MARK_FLAG + image::OPEN_FLAG + image::DYNAMIC_FLAG;
 
 // An entry's words.
 struct EntryWords {
@@ -195,7 +112,7 @@ fn region_end(image: &[u32], k: usize, width: usize) -> usize
 fn pending_when_asked(state: u32, pending: u32) -> bool
     ensures { λ r. ⌜ r ≡ cond (eqb state idle) (isZero pending) (leb 1 pending) ⌝ }
 {
-    if state == IDLE {
+    if state == image::IDLE {
         pending == 0
     } else {
         1 <= pending
@@ -209,11 +126,11 @@ fn header_right(image: &[u32]) -> bool
     if image.len() < image::HEADER_WORDS {
         return false;
     }
-    (image[FORMAT_AT] == FORMAT)
-        & (image[STATE_AT] <= ASKED)
-        & pending_when_asked(image[STATE_AT], image[PENDING_COUNT_AT])
-        & (image[NAMES_AT] <= NAMES_MOST)
-        & (image[FUNCTOR_AT] <= image[NAMES_AT])
+    (image[image::FORMAT_AT] == image::FORMAT)
+        & (image[image::STATE_AT] <= image::ASKED)
+        & pending_when_asked(image[image::STATE_AT], image[image::PENDING_COUNT_AT])
+        & (image[image::NAMES_AT] <= image::NAMES_MOST)
+        & (image[image::FUNCTOR_AT] <= image[image::NAMES_AT])
 }
 
 // Whether region k starts at a word, its capacity is within a maximum, and its count within its capacity.
@@ -236,12 +153,12 @@ fn regions_laid(image: &[u32]) -> bool
     let pending_at = region_end(image, VISITED, image::VISITED_WIDTH);
     let equals_at = region_end(image, PENDING, image::PENDING_WIDTH);
     let end = region_end(image, EQUALS, image::EQUALS_WIDTH);
-    region_laid(image, ENTRIES, ENTRIES_MOST, image::HEADER_WORDS)
-        & region_laid(image, FIELDS, FIELDS_MOST, fields_at)
-        & region_laid(image, BOUNDS, BOUNDS_MOST, bounds_at)
-        & region_laid(image, VISITED, VISITED_MOST, visited_at)
-        & region_laid(image, PENDING, PENDING_MOST, pending_at)
-        & region_laid(image, EQUALS, EQUALS_MOST, equals_at)
+    region_laid(image, ENTRIES, image::ENTRIES_MOST, image::HEADER_WORDS)
+        & region_laid(image, FIELDS, image::FIELDS_MOST, fields_at)
+        & region_laid(image, BOUNDS, image::BOUNDS_MOST, bounds_at)
+        & region_laid(image, VISITED, image::VISITED_MOST, visited_at)
+        & region_laid(image, PENDING, image::PENDING_MOST, pending_at)
+        & region_laid(image, EQUALS, image::EQUALS_MOST, equals_at)
         & (end == image.len())
 }
 
@@ -273,17 +190,19 @@ fn break_right(image: &[u32]) -> bool
     requires { ⌜ Laid (now image) ⌝ }
     ensures { λ r. ⌜ r ≡ breakRight (storeOf (now (image .entry))) ⌝ }
 {
-    let kind = image[BREAK_KIND_AT];
-    let sub = image[BREAK_SUB_AT];
-    let sup = image[BREAK_SUP_AT];
-    let name = image[BREAK_NAME_AT];
-    let entries = image[ENTRIES_COUNT_AT];
-    if kind == UNBROKEN {
+    let kind = image[image::BREAK_KIND_AT];
+    let sub = image[image::BREAK_SUB_AT];
+    let sup = image[image::BREAK_SUP_AT];
+    let name = image[image::BREAK_NAME_AT];
+    let entries = image[image::ENTRIES_COUNT_AT];
+    if kind == image::UNBROKEN {
         (sub == 0) & (sup == 0) & (name == 0)
-    } else if kind == MISMATCHED {
+    } else if kind == image::MISMATCHED {
         (sub < entries) & (sup < entries) & (name == 0)
     } else {
-        (sub < entries) & (sup < entries) & ((kind == FIELD_MISSING) & (name < image[NAMES_AT]))
+        (sub < entries)
+            & (sup < entries)
+            & ((kind == image::FIELD_MISSING) & (name < image[image::NAMES_AT]))
     }
 }
 
@@ -294,13 +213,13 @@ fn entry_words(image: &[u32], i: u32) -> EntryWords
     ensures { λ r. ⌜ entryTold r ≡ entryAt (entriesOf (now (image .entry))) i ⌝ }
 {
     EntryWords {
-        kind: image::entry_word(image, i, 0),
-        x: image::entry_word(image, i, 1),
-        y: image::entry_word(image, i, 2),
-        z: image::entry_word(image, i, 3),
-        flags: image::entry_word(image, i, 4),
-        spread: image::entry_word(image, i, 5),
-        negation: image::entry_word(image, i, 6),
+        kind: image::entry_word(image, i, image::KIND_WORD),
+        x: image::entry_word(image, i, image::X_WORD),
+        y: image::entry_word(image, i, image::Y_WORD),
+        z: image::entry_word(image, i, image::Z_WORD),
+        flags: image::entry_word(image, i, image::FLAGS_WORD),
+        spread: image::entry_word(image, i, image::SPREAD_WORD),
+        negation: image::entry_word(image, i, image::NEGATION_WORD),
     }
 }
 
@@ -308,34 +227,34 @@ fn entry_words(image: &[u32], i: u32) -> EntryWords
 fn one_component(e: EntryWords) -> bool
     ensures { λ r. ⌜ r ≡ oneComponent (entryTold e) ⌝ }
 {
-    (e.kind == LIST) | (e.kind == NAMED) | (e.kind == NEG)
+    (e.kind == image::LIST) | (e.kind == image::NAMED) | (e.kind == image::NEG)
 }
 
 fn two_components(e: EntryWords) -> bool
     ensures { λ r. ⌜ r ≡ twoComponents (entryTold e) ⌝ }
 {
-    (e.kind == LAMBDA) | (e.kind == INTER) | (e.kind == UNION)
+    (e.kind == image::LAMBDA) | (e.kind == image::INTER) | (e.kind == image::UNION)
 }
 
 // Whether z is a component: an attrset's dynamic type.
 fn has_dynamic_type(e: EntryWords) -> bool
     ensures { λ r. ⌜ r ≡ hasDynamicType (entryTold e) ⌝ }
 {
-    (e.kind == ATTRSET) & image::says_dynamic(e.flags)
+    (e.kind == image::ATTRSET) & image::says_dynamic(e.flags)
 }
 
 // Whether the kind is one of the nine.
 fn kind_known(e: EntryWords) -> bool
     ensures { λ r. ⌜ r ≡ kindKnown (entryTold e) ⌝ }
 {
-    e.kind <= UNION
+    e.kind <= image::UNION
 }
 
 // Whether a primitive is one of the eight.
 fn primitive_known(e: EntryWords) -> bool
     ensures { λ r. ⌜ r ≡ primitiveKnown (entryTold e) ⌝ }
 {
-    !(e.kind == PRIMITIVE) | (e.x <= NUMBER)
+    !(e.kind == image::PRIMITIVE) | (e.x <= image::NUMBER)
 }
 
 // Whether every component is below its owner, entry i.
@@ -352,19 +271,19 @@ fn components_below(i: u32, e: EntryWords) -> bool
 fn unused_zero(e: EntryWords) -> bool
     ensures { λ r. ⌜ r ≡ unusedZero (entryTold e) ⌝ }
 {
-    (two_components(e) | (e.kind == NAMED) | (e.kind == ATTRSET) | (e.y == 0))
+    (two_components(e) | (e.kind == image::NAMED) | (e.kind == image::ATTRSET) | (e.y == 0))
         & (has_dynamic_type(e) | (e.z == 0))
-        & (!((e.kind == ATTRSET) & (e.y == 0)) | (e.x == 0))
+        & (!((e.kind == image::ATTRSET) & (e.y == 0)) | (e.x == 0))
 }
 
 // Whether no flag is set that the kind does not have.
 fn flags_known(e: EntryWords) -> bool
     ensures { λ r. ⌜ r ≡ flagsKnown (entryTold e) ⌝ }
 {
-    if e.kind == ATTRSET {
+    if e.kind == image::ATTRSET {
         e.flags <= ATTRSET_FLAGS
     } else {
-        e.flags <= MARK_FLAG
+        e.flags <= image::MARK_FLAG
     }
 }
 
@@ -373,8 +292,8 @@ fn spread_at(image: &[u32], n: u32) -> usize
     requires { ⌜ Laid (now image) ⌝ }
     ensures { λ r. ⌜ (r ≡ spreadAt (entriesOf (now (image .entry))) n) × (r < wordEnd) ⌝ }
 {
-    if n < image[ENTRIES_COUNT_AT] {
-        wide(image::entry_word(image, n, SPREAD_WORD))
+    if n < image[image::ENTRIES_COUNT_AT] {
+        wide(image::entry_word(image, n, image::SPREAD_WORD))
     } else {
         0
     }
@@ -385,9 +304,9 @@ fn spread_of(image: &[u32], kind: u32, x: u32, y: u32) -> usize
     requires { ⌜ Laid (now image) ⌝ }
     ensures { λ r. ⌜ r ≡ spreadOf (entriesOf (now (image .entry))) kind x y ⌝ }
 {
-    if kind <= ATTRSET {
+    if kind <= image::ATTRSET {
         1
-    } else if kind <= NEG {
+    } else if kind <= image::NEG {
         1 + spread_at(image, x)
     } else {
         1 + spread_at(image, x) + spread_at(image, y)
@@ -399,7 +318,7 @@ fn spread_right(image: &[u32], e: EntryWords) -> bool
     requires { ⌜ Laid (now image) ⌝ }
     ensures { λ r. ⌜ r ≡ spreadRight (entriesOf (now (image .entry))) (entryTold e) ⌝ }
 {
-    (wide(e.spread) == spread_of(image, e.kind, e.x, e.y)) & (e.spread <= SPREAD_MOST)
+    (wide(e.spread) == spread_of(image, e.kind, e.x, e.y)) & (e.spread <= image::SPREAD_MOST)
 }
 
 // Whether the negation is none, or the number of an entry plus 1.
@@ -407,7 +326,7 @@ fn negation_known(image: &[u32], e: EntryWords) -> bool
     requires { ⌜ Laid (now image) ⌝ }
     ensures { λ r. ⌜ r ≡ negationKnown (entriesOf (now (image .entry))) (entryTold e) ⌝ }
 {
-    e.negation <= image[ENTRIES_COUNT_AT]
+    e.negation <= image[image::ENTRIES_COUNT_AT]
 }
 
 // Whether so many field records from the first on have strictly ascending names below the name count, and entries below
@@ -417,13 +336,13 @@ fn own_right(image: &[u32], i: u32, first: u32, fields: u32) -> bool
     requires { ⌜ first + fields ≤ length (fieldsIn (now image)) ⌝ }
     ensures { λ r. ⌜ r ≡ ownRight (storeOf (now (image .entry)) .names) i (take fields (drop first (fieldsIn (now (image .entry))))) ⌝ }
 {
-    let names = image[NAMES_AT];
+    let names = image[image::NAMES_AT];
     let mut ok = true;
     let mut least = 0;
     let mut k = 0;
     while k < fields {
-        let name = image::field_word(image, first + k, 0);
-        let entry = image::field_word(image, first + k, 1);
+        let name = image::field_word(image, first + k, image::NAME_WORD);
+        let entry = image::field_word(image, first + k, image::ENTRY_WORD);
         ok = ok & ((least <= wide(name)) & (name < names) & (entry < i));
         least = wide(name) + 1;
         k += 1;
@@ -436,10 +355,10 @@ fn attrset_right(image: &[u32], i: u32, e: EntryWords) -> bool
     requires { ⌜ Laid (now image) ⌝ }
     ensures { λ r. ⌜ r ≡ fieldsRight (fieldsIn (now (image .entry))) (storeOf (now (image .entry)) .names) i (entryTold e) ⌝ }
 {
-    if e.kind != ATTRSET {
+    if e.kind != image::ATTRSET {
         return true;
     }
-    if wide(image[FIELDS_COUNT_AT]) < wide(e.x) + wide(e.y) {
+    if wide(image[image::FIELDS_COUNT_AT]) < wide(e.x) + wide(e.y) {
         return false;
     }
     own_right(image, i, e.x, e.y)
@@ -467,7 +386,7 @@ fn entries_right(image: &[u32]) -> bool
     requires { ⌜ Laid (now image) ⌝ }
     ensures { λ r. ⌜ r ≡ allFrom (entryRightIn (now (image .entry))) 0 (entriesOf (now (image .entry))) ⌝ }
 {
-    let n = image[ENTRIES_COUNT_AT];
+    let n = image[image::ENTRIES_COUNT_AT];
     let mut ok = true;
     let mut i = 0;
     while i < n {
@@ -483,8 +402,8 @@ fn field_right(image: &[u32], i: u32) -> bool
     requires { ⌜ i < length (fieldsIn (now image)) ⌝ }
     ensures { λ r. ⌜ r ≡ fieldRight (entriesOf (now (image .entry))) (fieldAt (fieldsIn (now (image .entry))) i) ⌝ }
 {
-    (image::field_word(image, i, 1) < image[ENTRIES_COUNT_AT])
-        & (image::field_word(image, i, 2) <= 1)
+    (image::field_word(image, i, image::ENTRY_WORD) < image[image::ENTRIES_COUNT_AT])
+        & (image::field_word(image, i, image::OPTIONAL_WORD) <= image::OPTIONAL)
 }
 
 // Whether every field record is right.
@@ -492,7 +411,7 @@ fn fields_right(image: &[u32]) -> bool
     requires { ⌜ Laid (now image) ⌝ }
     ensures { λ r. ⌜ r ≡ all (fieldRight (entriesOf (now (image .entry)))) (fieldsIn (now (image .entry))) ⌝ }
 {
-    let n = image[FIELDS_COUNT_AT];
+    let n = image[image::FIELDS_COUNT_AT];
     let mut ok = true;
     let mut i = 0;
     while i < n {
@@ -507,8 +426,8 @@ fn is_variable(image: &[u32], v: u32) -> bool
     requires { ⌜ Laid (now image) ⌝ }
     ensures { λ r. ⌜ r ≡ (isEntry (entriesOf (now (image .entry))) v && isAt (entriesOf (now (image .entry))) variable v) ⌝ }
 {
-    if v < image[ENTRIES_COUNT_AT] {
-        image::entry_word(image, v, KIND_WORD) == VARIABLE
+    if v < image[image::ENTRIES_COUNT_AT] {
+        image::entry_word(image, v, image::KIND_WORD) == image::VARIABLE
     } else {
         false
     }
@@ -520,13 +439,13 @@ fn bound_right(image: &[u32], i: u32) -> bool
     requires { ⌜ i < length (boundsAll (now image)) ⌝ }
     ensures { λ r. ⌜ r ≡ boundRight (entriesOf (now (image .entry))) (boundAt (boundsAll (now (image .entry))) i) ⌝ }
 {
-    if !is_variable(image, image::bound_word(image, i, 0)) {
+    if !is_variable(image, image::bound_word(image, i, image::VARIABLE_WORD)) {
         return false;
     }
-    if UPPER < image::bound_word(image, i, 1) {
+    if image::UPPER < image::bound_word(image, i, image::SIDE_WORD) {
         return false;
     }
-    image::bound_word(image, i, 2) < image[ENTRIES_COUNT_AT]
+    image::bound_word(image, i, image::BOUND_WORD) < image[image::ENTRIES_COUNT_AT]
 }
 
 // Whether every bound record is right.
@@ -534,7 +453,7 @@ fn bounds_right(image: &[u32]) -> bool
     requires { ⌜ Laid (now image) ⌝ }
     ensures { λ r. ⌜ r ≡ all (boundRight (entriesOf (now (image .entry)))) (boundsAll (now (image .entry))) ⌝ }
 {
-    let n = image[BOUNDS_COUNT_AT];
+    let n = image[image::BOUNDS_COUNT_AT];
     let mut i = 0;
     while i < n {
         if !bound_right(image, i) {
@@ -552,7 +471,7 @@ fn pairs_right(image: &[u32], k: usize) -> bool
 {
     let start = offset(image, k);
     let end = start + 2 * count(image, k);
-    below(&image[start..end], image[ENTRIES_COUNT_AT])
+    below(&image[start..end], image[image::ENTRIES_COUNT_AT])
 }
 
 // Whether every record is right.

@@ -37,7 +37,9 @@ pub struct Capacities {
     pub equals: u32,
 }
 
-// The header's words: where each stands, as in the model's Format.
+// The numbers of the format and its limits, as in the model's Format: the crates above have them from here.
+
+// Where the header has each word: the first nine, then offset, capacity and count of each region. It has 27.
 pub const FORMAT_AT: usize = 0;
 
 pub const STATE_AT: usize = 1;
@@ -94,13 +96,118 @@ pub const EQUALS_COUNT_AT: usize = 26;
 
 pub const HEADER_WORDS: usize = 27;
 
-// The format that word 0 names.
+// The format that word 0 says.
 pub const FORMAT: u32 = 1;
 
-// Words are below this.
-const WORD_END: u64 = 4294967296;
+// State: idle, asked.
+pub const IDLE: u32 = 0;
 
-// What a capacity, and the name count, may be at most.
+pub const ASKED: u32 = 1;
+
+// Break kind: none, mismatch, missing field.
+pub const UNBROKEN: u32 = 0;
+
+pub const MISMATCHED: u32 = 1;
+
+pub const FIELD_MISSING: u32 = 2;
+
+// The regions, by their numbers.
+pub const ENTRIES: u32 = 1;
+
+pub const FIELDS: u32 = 2;
+
+pub const BOUNDS: u32 = 3;
+
+pub const VISITED: u32 = 4;
+
+pub const PENDING: u32 = 5;
+
+pub const EQUALS: u32 = 6;
+
+// Words per record.
+pub const ENTRY_WIDTH: usize = 7;
+
+pub const FIELD_WIDTH: usize = 3;
+
+pub const BOUND_WIDTH: usize = 3;
+
+pub const VISITED_WIDTH: usize = 2;
+
+pub const PENDING_WIDTH: usize = 2;
+
+pub const EQUALS_WIDTH: usize = 2;
+
+// Where an entry has its words.
+pub const KIND_WORD: usize = 0;
+
+pub const X_WORD: usize = 1;
+
+pub const Y_WORD: usize = 2;
+
+pub const Z_WORD: usize = 3;
+
+pub const FLAGS_WORD: usize = 4;
+
+pub const SPREAD_WORD: usize = 5;
+
+pub const NEGATION_WORD: usize = 6;
+
+// Where a field record has its words.
+pub const NAME_WORD: usize = 0;
+
+pub const ENTRY_WORD: usize = 1;
+
+pub const OPTIONAL_WORD: usize = 2;
+
+// Where a bound record has its words.
+pub const VARIABLE_WORD: usize = 0;
+
+pub const SIDE_WORD: usize = 1;
+
+pub const BOUND_WORD: usize = 2;
+
+// Kinds.
+pub const VARIABLE: u32 = 0;
+
+pub const PRIMITIVE: u32 = 1;
+
+pub const LIST: u32 = 2;
+
+pub const LAMBDA: u32 = 3;
+
+pub const ATTRSET: u32 = 4;
+
+pub const NAMED: u32 = 5;
+
+pub const NEG: u32 = 6;
+
+pub const INTER: u32 = 7;
+
+pub const UNION: u32 = 8;
+
+// Primitives that the rules name: Int, Float, and the last, Number.
+pub const INT: u32 = 2;
+
+pub const FLOAT: u32 = 3;
+
+pub const NUMBER: u32 = 7;
+
+// Flags: default mark, of any kind; of attrsets also open and dynamic present.
+pub const MARK_FLAG: u32 = 1;
+
+pub const OPEN_FLAG: u32 = 2;
+
+pub const DYNAMIC_FLAG: u32 = 4;
+
+// An optional field; one that is not has 0.
+pub const OPTIONAL: u32 = 1;
+
+// Side: lower, upper.
+pub const LOWER: u32 = 0;
+
+pub const UPPER: u32 = 1;
+
+// Capacity at most, and at most so many names.
 pub const ENTRIES_MOST: u32 = 4096;
 
 pub const FIELDS_MOST: u32 = 16384;
@@ -115,37 +222,14 @@ pub const EQUALS_MOST: u32 = 65536;
 
 pub const NAMES_MOST: u32 = 4096;
 
-// The state word.
-pub const IDLE: u32 = 0;
+// Spread is at most this.
+pub const SPREAD_MOST: u32 = 1024;
 
-pub const ASKED: u32 = 1;
+// Adding a bound scans for a duplicate while the list holds so many or fewer.
+pub const SCAN_MOST: u32 = 32;
 
-// An entry's flags.
-pub const MARK_FLAG: u32 = 1;
-
-pub const OPEN_FLAG: u32 = 2;
-
-pub const DYNAMIC_FLAG: u32 = 4;
-
-// Words of an entry that are written alone.
-pub const X_WORD: usize = 1;
-
-pub const FLAGS_WORD: usize = 4;
-
-pub const NEGATION_WORD: usize = 6;
-
-// Words per record.
-pub const ENTRY_WIDTH: usize = 7;
-
-pub const FIELD_WIDTH: usize = 3;
-
-pub const BOUND_WIDTH: usize = 3;
-
-pub const VISITED_WIDTH: usize = 2;
-
-pub const PENDING_WIDTH: usize = 2;
-
-pub const EQUALS_WIDTH: usize = 2;
+// A word is below this.
+const WORD_END: u64 = 4294967296;
 
 // A word as an index.
 fn wide(x: u32) -> usize
@@ -394,11 +478,11 @@ pub fn entry(image: &[u32], i: u32) -> Entry
     requires { ⌜ i < length (entriesOf (now image)) ⌝ }
     ensures { λ r. ⌜ r ≡ readOut (entryAt (entriesOf (now (image .entry))) i) ⌝ }
 {
-    let kind = entry_word(image, i, 0);
-    let x = entry_word(image, i, 1);
-    let y = entry_word(image, i, 2);
-    let z = entry_word(image, i, 3);
-    let flags = entry_word(image, i, 4);
+    let kind = entry_word(image, i, KIND_WORD);
+    let x = entry_word(image, i, X_WORD);
+    let y = entry_word(image, i, Y_WORD);
+    let z = entry_word(image, i, Z_WORD);
+    let flags = entry_word(image, i, FLAGS_WORD);
     match kind {
         0 => Entry::Variable { level: x },
         1 => Entry::Primitive(x),

@@ -17,11 +17,6 @@ ghost use Rattle.model.specs.Told.{toldReply, toldAnswer};
 ghost use Rattle.image.specs.Shown.{Shows, Shown, storeOf, pendingIn};
 ghost use Rattle.questions.specs.Asking.{Fitness, worked};
 
-// The region that lacks a record.
-const PENDING: u32 = 5;
-
-const EQUALS: u32 = 6;
-
 // The refusals that both questions have, in 01's order, or none.
 fn fitness(image: &[u32], held: bool, a: u32, b: u32) -> Reply
     requires { ⌜ T (wellFormed (now image)) ⌝ }
@@ -31,7 +26,7 @@ fn fitness(image: &[u32], held: bool, a: u32, b: u32) -> Reply
         return Reply::Refused(Refusal::Busy);
     }
     let kind = image::break_kind(image);
-    if held & (kind != 0) {
+    if held & (kind != image::UNBROKEN) {
         let sub = image::break_sub(image);
         let sup = image::break_sup(image);
         let name = image::break_name(image);
@@ -62,7 +57,7 @@ pub fn ask(image: &mut [u32], held: bool, sub: u32, sup: u32) -> Reply
         return Reply::Refused(r);
     }
     if image::pending_capacity(image) < 1 {
-        return Reply::Refused(Refusal::NoRoom(PENDING));
+        return Reply::Refused(Refusal::NoRoom(image::PENDING));
     }
     image::push_pending(image, sub, sup);
     Reply::Done
@@ -91,11 +86,11 @@ pub fn ask_equal(image: &mut [u32], held: bool, left: u32, right: u32) -> Reply
         return Reply::Refused(r);
     }
     if image::pending_capacity(image) < 2 {
-        return Reply::Refused(Refusal::NoRoom(PENDING));
+        return Reply::Refused(Refusal::NoRoom(image::PENDING));
     }
     let full = image::equals_capacity(image) <= image::equals_count(image);
     if (left != right) & full {
-        return Reply::Refused(Refusal::NoRoom(EQUALS));
+        return Reply::Refused(Refusal::NoRoom(image::EQUALS));
     }
     record_equal(image, left, right);
     image::push_pending(image, right, left);

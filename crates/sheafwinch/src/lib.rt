@@ -21,29 +21,6 @@ ghost use Rattle.model.specs.Told.{toldMade, toldReply, toldAnswer, toldEntryRe
 ghost use Rattle.image.specs.Shown.{entriesOf};
 ghost use Rattle.image.specs.Stores.{capacitiesOf};
 
-// Kinds.
-const VARIABLE: u32 = 0;
-
-const PRIMITIVE: u32 = 1;
-
-const LIST: u32 = 2;
-
-const LAMBDA: u32 = 3;
-
-const NAMED: u32 = 5;
-
-const INTER: u32 = 7;
-
-const UNION: u32 = 8;
-
-// The last primitive.
-const NUMBER: u32 = 7;
-
-// The last side, and where an entry has its kind.
-const UPPER: u32 = 1;
-
-const KIND: usize = 0;
-
 // Starts an image in the lent words, whatever stood there: idle, level and counts 0.
 pub fn start(image: &mut [u32], names: u32, functor: u32, capacities: image::Capacities) -> Reply
     ensures { λ r. ⌜ toldReply r ≡ startOf names functor (capacitiesOf capacities) (now (image .entry)) .says ⌝ }
@@ -73,7 +50,7 @@ fn variable_in(image: &mut [u32]) -> Made
         return Made::Refused(Refusal::Busy);
     }
     let level = image::level(image);
-    type_table::make(image, VARIABLE, level, 0)
+    type_table::make(image, image::VARIABLE, level, 0)
 }
 
 // Makes a primitive, 0 to 7.
@@ -96,10 +73,10 @@ fn primitive_in(image: &mut [u32], which: u32) -> Made
     if image::is_asked(image) {
         return Made::Refused(Refusal::Busy);
     }
-    if NUMBER < which {
+    if image::NUMBER < which {
         return Made::Refused(Refusal::BadNumber);
     }
-    type_table::make(image, PRIMITIVE, which, 0)
+    type_table::make(image, image::PRIMITIVE, which, 0)
 }
 
 // Makes a list of an element.
@@ -110,7 +87,7 @@ pub fn make_list(image: &mut [u32], element: u32) -> Made
     if !formed::check(image) {
         return Made::Refused(Refusal::BadTable);
     }
-    one_in(image, LIST, element, 0)
+    one_in(image, image::LIST, element, 0)
 }
 
 // Makes a named entry; the label is never tested.
@@ -121,7 +98,7 @@ pub fn make_named(image: &mut [u32], inner: u32, label: u32) -> Made
     if !formed::check(image) {
         return Made::Refused(Refusal::BadTable);
     }
-    one_in(image, NAMED, inner, label)
+    one_in(image, image::NAMED, inner, label)
 }
 
 // An entry of one component, and a word that is none.
@@ -148,7 +125,7 @@ pub fn make_lambda(image: &mut [u32], param: u32, body: u32) -> Made
     if !formed::check(image) {
         return Made::Refused(Refusal::BadTable);
     }
-    two_in(image, LAMBDA, param, body)
+    two_in(image, image::LAMBDA, param, body)
 }
 
 // Makes an intersection.
@@ -159,7 +136,7 @@ pub fn make_inter(image: &mut [u32], left: u32, right: u32) -> Made
     if !formed::check(image) {
         return Made::Refused(Refusal::BadTable);
     }
-    two_in(image, INTER, left, right)
+    two_in(image, image::INTER, left, right)
 }
 
 // Makes a union.
@@ -170,7 +147,7 @@ pub fn make_union(image: &mut [u32], left: u32, right: u32) -> Made
     if !formed::check(image) {
         return Made::Refused(Refusal::BadTable);
     }
-    two_in(image, UNION, left, right)
+    two_in(image, image::UNION, left, right)
 }
 
 // An entry of two components.
@@ -310,13 +287,13 @@ fn bound_in(image: &mut [u32], v: u32, side: u32, b: u32) -> Reply
     if image::entries_count(image) <= v {
         return Reply::Refused(Refusal::BadNumber);
     }
-    if UPPER < side {
+    if image::UPPER < side {
         return Reply::Refused(Refusal::BadNumber);
     }
     if image::entries_count(image) <= b {
         return Reply::Refused(Refusal::BadNumber);
     }
-    if image::entry_word(image, v, KIND) != VARIABLE {
+    if image::entry_word(image, v, image::KIND_WORD) != image::VARIABLE {
         return Reply::Refused(Refusal::NotAVariable);
     }
     storage::put_bound(image, v, side, b)
@@ -391,7 +368,7 @@ fn level_in(image: &mut [u32], v: u32, level: u32) -> Reply
     if image::entries_count(image) <= v {
         return Reply::Refused(Refusal::BadNumber);
     }
-    if image::entry_word(image, v, KIND) != VARIABLE {
+    if image::entry_word(image, v, image::KIND_WORD) != image::VARIABLE {
         return Reply::Refused(Refusal::NotAVariable);
     }
     storage::set_level(image, v, level);
@@ -501,13 +478,13 @@ fn entry_record(image: &[u32], n: u32) -> Record
     if image::entries_count(image) <= n {
         return Record::Refused(Refusal::BadNumber);
     }
-    let kind_word = image::entry_word(image, n, 0);
-    let x_word = image::entry_word(image, n, 1);
-    let y_word = image::entry_word(image, n, 2);
-    let z_word = image::entry_word(image, n, 3);
-    let flags_word = image::entry_word(image, n, 4);
-    let spread_word = image::entry_word(image, n, 5);
-    let negation_word = image::entry_word(image, n, 6);
+    let kind_word = image::entry_word(image, n, image::KIND_WORD);
+    let x_word = image::entry_word(image, n, image::X_WORD);
+    let y_word = image::entry_word(image, n, image::Y_WORD);
+    let z_word = image::entry_word(image, n, image::Z_WORD);
+    let flags_word = image::entry_word(image, n, image::FLAGS_WORD);
+    let spread_word = image::entry_word(image, n, image::SPREAD_WORD);
+    let negation_word = image::entry_word(image, n, image::NEGATION_WORD);
     Record::Entry {
         kind: kind_word,
         x: x_word,
@@ -527,9 +504,9 @@ fn field_record(image: &[u32], n: u32) -> Record
     if image::fields_count(image) <= n {
         return Record::Refused(Refusal::BadNumber);
     }
-    let name_word = image::field_word(image, n, 0);
-    let entry_word = image::field_word(image, n, 1);
-    let optional_word = image::field_word(image, n, 2);
+    let name_word = image::field_word(image, n, image::NAME_WORD);
+    let entry_word = image::field_word(image, n, image::ENTRY_WORD);
+    let optional_word = image::field_word(image, n, image::OPTIONAL_WORD);
     Record::Field {
         name: name_word,
         entry: entry_word,
@@ -545,9 +522,9 @@ fn bound_record(image: &[u32], n: u32) -> Record
     if image::bounds_count(image) <= n {
         return Record::Refused(Refusal::BadNumber);
     }
-    let variable_word = image::bound_word(image, n, 0);
-    let side_word = image::bound_word(image, n, 1);
-    let bound_word = image::bound_word(image, n, 2);
+    let variable_word = image::bound_word(image, n, image::VARIABLE_WORD);
+    let side_word = image::bound_word(image, n, image::SIDE_WORD);
+    let bound_word = image::bound_word(image, n, image::BOUND_WORD);
     Record::Bound {
         variable: variable_word,
         side: side_word,

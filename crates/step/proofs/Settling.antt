@@ -1,16 +1,15 @@
 -- Steps that make entries: how deep these go, what a step comes to that has made them, and that undoing gives the words found. Assumes nothing.
-use Prim.Native.Nat.{ℕ, zero, suc, _+_, _-_, _≤_, _<_}
+use Prim.Native.Nat.{ℕ, _+_, _-_, _≤_, _<_}
 use native.Mathlib.Omega.{arith}
 use mathlib.Core.Path.{_≡_, refl, sym, ap, subst, _∙_}
 use mathlib.Core.List.{List, [], _∷_, _++_}
 use mathlib.Core.Logic.{⊎-elim}
-use mathlib.Core.Bool.{Bool, true, false, cond, _||_}
+use mathlib.Core.Bool.{Bool, true, false, cond}
 use lib.ListN.{length, take, length-append}
 use lib.Seq.{getD-take, length-take-le}
-use lib.Dec.{T, ltb}
+use lib.Dec.{T}
 use borrow.Author.Tests.{lt-ltb, le-ltb}
 use Rattle.instalments.specs.Machine.{goes, Room, lacks, enough}
-use Rattle.model.specs.Lists.{any}
 use Rattle.model.specs.Format.{spreadMost, entriesRegion, visitedRegion}
 use Rattle.model.specs.Table.{Entry, Pair, Table, tableOf, noEntry, withEntries, withVisited}
 use Rattle.model.specs.Image.{words, table}
@@ -28,6 +27,7 @@ use Rattle.laws.proofs.Formed.{sound-table}
 use Rattle.image.specs.Shown.{Shows, Shown, Within, storeOf, entriesOf, visitedIn, pendingIn, entriesTo, pendingTo}
 use Rattle.image.proofs.Laying.{formed-shown, seen, shown}
 use Rattle.type_table.specs.Made.{entriesIn}
+use Rattle.type_table.proofs.Replies.{some-deep}
 use Rattle.step.specs.Taken.{Taken, takenBy, taken, beforeLast}
 use Rattle.step.specs.Made.{settled}
 use Rattle.step.specs.declared.Step.{Step}
@@ -51,18 +51,8 @@ shallow-next es i x h e le j lt =
 pub deep-none : (es : List Entry) (i : ℕ) → ShallowTo i es → length es ≤ i → tooDeep es ≡ false
 deep-none es i h le = none-deep es (λ j lt. h j (omega arith))
 
-deep-some : (es : List Entry) (i : ℕ) → i < length es → spreadMost < spreadAt es i → tooDeep es ≡ true
-unfolding tooDeep any
-deep-some [] i lt h = absurd (omega arith)
-deep-some (e ∷ es) zero lt h = rw (lt-ltb spreadMost (e .spread) h)
-deep-some (e ∷ es) (suc i) lt h = rw (deep-some es i (omega arith) h) (right (ltb spreadMost (e .spread)))
-  where
-    right : (b : Bool) → (b || true) ≡ true
-    right true = refl
-    right false = refl
-
 pub deep-hit : (es : List Entry) (i n x : ℕ) → n ≡ length es → i < n → x ≡ spreadAt es i → spreadMost < x → tooDeep es ≡ true
-deep-hit es i n x e lt f h = deep-some es i (omega arith) (omega arith)
+deep-hit es i n x e lt f h = some-deep es i (omega arith) (omega arith)
 
 -- a step answers and leaves what it comes to
 abbrev pub Comes : Taken → Step → List ℕ → Type 0

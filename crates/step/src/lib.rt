@@ -31,44 +31,6 @@ ghost use Rattle.step.specs.Taken.{beforeLast, lastPair, taken, outcomeF
 ghost use Rattle.step.specs.Made.{TargetIn, settled};
 ghost use Rattle.step.specs.Put.{fieldPair, boundPair, countIn};
 
-// Where an entry has its kind, its flags and how far it spreads, and a field or bound record its entry.
-const KIND: usize = 0;
-
-const FLAGS: usize = 4;
-
-const SPREAD: usize = 5;
-
-const FIELD_ENTRY: usize = 1;
-
-const BOUND: usize = 2;
-
-const VARIABLE: u32 = 0;
-
-const LAMBDA: u32 = 3;
-
-const UNION: u32 = 8;
-
-const LOWER: u32 = 0;
-
-const UPPER: u32 = 1;
-
-// Break kinds.
-const MISMATCHED: u32 = 1;
-
-const FIELD_MISSING: u32 = 2;
-
-// The region that lacks a record.
-const ENTRIES: u32 = 1;
-
-const BOUNDS: u32 = 3;
-
-const VISITED: u32 = 4;
-
-const PENDING: u32 = 5;
-
-// No new entry spreads further.
-const SPREAD_MOST: u32 = 1024;
-
 // What a step comes to.
 pub enum Step {
     Went,
@@ -100,11 +62,11 @@ fn room_for(image: &[u32], more: u32) -> Room
     ensures { λ r. ⌜ RoomFor (now (image .entry)) (storeOf (now (image .entry))) more r ⌝ }
 {
     if image::visited_capacity(image) <= image::visited_count(image) {
-        return Room::Lacks(Refusal::NoRoom(VISITED));
+        return Room::Lacks(Refusal::NoRoom(image::VISITED));
     }
     let others = image::pending_count(image) - 1;
     if image::pending_capacity(image) - others < more {
-        return Room::Lacks(Refusal::NoRoom(PENDING));
+        return Room::Lacks(Refusal::NoRoom(image::PENDING));
     }
     Room::Enough
 }
@@ -114,13 +76,13 @@ fn fill_break(image: &mut [u32], failure: Failure)
     requires { ⌜ Shown (now image) ⌝ }
     ensures { λ _. ⌜ Shows (now (image .exit)) (tableOf (fillBreak failure (storeOf (now (image .entry)))) (pendingIn (now (image .entry)))) ⌝ }
 {
-    if image::break_kind(image) != 0 {
+    if image::break_kind(image) != image::UNBROKEN {
         return;
     }
     match failure {
-        Failure::Mismatch { sub, sup } => image::put_break(image, MISMATCHED, sub, sup, 0),
+        Failure::Mismatch { sub, sup } => image::put_break(image, image::MISMATCHED, sub, sup, 0),
         Failure::MissingField { sub, sup, name } => {
-            image::put_break(image, FIELD_MISSING, sub, sup, name)
+            image::put_break(image, image::FIELD_MISSING, sub, sup, name)
         }
     }
 }
@@ -152,7 +114,7 @@ fn put_field_pair(image: &mut [u32], a: Attrset, j: u32)
 {
     let ask = constrain::asks(image, a, j);
     if let Ask::Under(x) = ask {
-        let entry = image::field_word(image, j, FIELD_ENTRY);
+        let entry = image::field_word(image, j, image::ENTRY_WORD);
         image::push_pending(image, x, entry);
     }
 }
@@ -253,8 +215,10 @@ fn make_target(image: &mut [u32], sup: u32, d: u32) -> Negated
     if image::entries_capacity(image) <= number {
         return Negated::Full;
     }
-    let spread = 1 + image::entry_word(image, sup, SPREAD) + image::entry_word(image, n, SPREAD);
-    image::push_entry(image, UNION, sup, n, 0, 0, spread);
+    let spread = 1
+        + image::entry_word(image, sup, image::SPREAD_WORD)
+        + image::entry_word(image, n, image::SPREAD_WORD);
+    image::push_entry(image, image::UNION, sup, n, 0, 0, spread);
     Negated::Number(number)
 }
 
@@ -267,7 +231,7 @@ fn is_deep(image: &[u32], old: u32) -> bool
 {
     let mut i = old;
     while i < image::entries_count(image) {
-        if SPREAD_MOST < image::entry_word(image, i, SPREAD) {
+        if image::SPREAD_MOST < image::entry_word(image, i, image::SPREAD_WORD) {
             return true;
         }
         i += 1;
@@ -286,7 +250,7 @@ fn settle(image: &mut [u32], old: u32, sub: u32, sup: u32, c: u32, target: u32) 
 {
     if image::visited_capacity(image) <= image::visited_count(image) {
         type_table::undo(image, old);
-        return Step::Refused(Refusal::NoRoom(VISITED));
+        return Step::Refused(Refusal::NoRoom(image::VISITED));
     }
     if is_deep(image, old) {
         type_table::undo(image, old);
@@ -309,7 +273,7 @@ fn isolate(image: &mut [u32], sub: u32, sup: u32, c: u32, d: u32) -> Step
     let old = image::entries_count(image);
     let Negated::Number(target) = make_target(image, sup, d) else {
         type_table::undo(image, old);
-        return Step::Refused(Refusal::NoRoom(ENTRIES)); // however deep it would go
+        return Step::Refused(Refusal::NoRoom(image::ENTRIES)); // however deep it would go
     };
     settle(image, old, sub, sup, c, target)
 }
@@ -323,10 +287,10 @@ fn functor(image: &mut [u32], sub: u32, sup: u32, f: u32, param: u32, body: u32)
 {
     let old = image::entries_count(image);
     if image::entries_capacity(image) - old < 2 {
-        return Step::Refused(Refusal::NoRoom(ENTRIES));
+        return Step::Refused(Refusal::NoRoom(image::ENTRIES));
     }
-    image::push_entry(image, LAMBDA, param, body, 0, 0, 1);
-    image::push_entry(image, LAMBDA, sub, old, 0, 0, 1);
+    image::push_entry(image, image::LAMBDA, param, body, 0, 0, 1);
+    image::push_entry(image, image::LAMBDA, sub, old, 0, 0, 1);
     settle(image, old, sub, sup, f, old + 1)
 }
 
@@ -340,7 +304,7 @@ fn room_for_bound(image: &[u32], repeated: bool, more: u32) -> Room
         return room_for(image, more);
     }
     if image::bounds_capacity(image) <= image::bounds_count(image) {
-        return Room::Lacks(Refusal::NoRoom(BOUNDS));
+        return Room::Lacks(Refusal::NoRoom(image::BOUNDS));
     }
     room_for(image, more)
 }
@@ -364,10 +328,10 @@ fn pass_mark(image: &mut [u32], sub: u32, sup: u32)
     requires { ⌜ sup < length (entriesOf (now image)) ⌝ }
     ensures { λ _. ⌜ Shows (now (image .exit)) (tableOf (passMark sub sup (storeOf (now (image .entry)))) (pendingIn (now (image .entry)))) ⌝ }
 {
-    if image::entry_word(image, sup, KIND) != VARIABLE {
+    if image::entry_word(image, sup, image::KIND_WORD) != image::VARIABLE {
         return;
     }
-    if image::entry_word(image, sub, FLAGS) % 2 == 1 {
+    if image::entry_word(image, sub, image::FLAGS_WORD) % 2 == 1 {
         image::put_mark(image, sup);
     }
 }
@@ -378,7 +342,7 @@ fn put_bound_pair(image: &mut [u32], side: u32, x: u32, b: u32)
     requires { ⌜ length (pendingIn (now image)) < storeOf (now image) .capacities .pending ⌝ }
     ensures { λ _. ⌜ Shows (now (image .exit)) (pendingTo (now (image .entry)) (pendingIn (now (image .entry)) ++ (boundPair side b x ∷ []))) ⌝ }
 {
-    if side == LOWER {
+    if side == image::LOWER {
         image::push_pending(image, x, b);
     } else {
         image::push_pending(image, b, x);
@@ -395,7 +359,7 @@ fn put_bound_pairs(image: &mut [u32], v: u32, side: u32, b: u32)
     while 0 < i {
         i -= 1;
         if storage::belongs(image, i, v, side) {
-            let x = image::bound_word(image, i, BOUND);
+            let x = image::bound_word(image, i, image::BOUND_WORD);
             put_bound_pair(image, side, x, b);
         }
     }
@@ -411,16 +375,16 @@ fn add_upper_bound(image: &mut [u32], sub: u32, sup: u32) -> Step
     ensures { λ _. ⌜ now (image .exit) ≡ taken (now (image .entry)) (outcomeFor (storeOf (now (image .entry))) (sub ⊑ sup) Upper) .words ⌝ }
 {
     let n = image::bounds_count(image);
-    let repeated = storage::repeats_bound(image, n, sub, UPPER, sup);
-    let more = storage::count_bounds(image, n, sub, LOWER);
+    let repeated = storage::repeats_bound(image, n, sub, image::UPPER, sup);
+    let more = storage::count_bounds(image, n, sub, image::LOWER);
     let room = room_for_bound(image, repeated, more);
     if let Room::Lacks(r) = room {
         return Step::Refused(r);
     }
-    add_bound(image, repeated, sub, UPPER, sup);
+    add_bound(image, repeated, sub, image::UPPER, sup);
     pass_mark(image, sub, sup);
     advance(image, sub, sup);
-    put_bound_pairs(image, sub, LOWER, sup);
+    put_bound_pairs(image, sub, image::LOWER, sup);
     Step::Went
 }
 
@@ -434,15 +398,15 @@ fn add_lower_bound(image: &mut [u32], sub: u32, sup: u32) -> Step
     ensures { λ _. ⌜ now (image .exit) ≡ taken (now (image .entry)) (outcomeFor (storeOf (now (image .entry))) (sub ⊑ sup) Lower) .words ⌝ }
 {
     let n = image::bounds_count(image);
-    let repeated = storage::repeats_bound(image, n, sup, LOWER, sub);
-    let more = storage::count_bounds(image, n, sup, UPPER);
+    let repeated = storage::repeats_bound(image, n, sup, image::LOWER, sub);
+    let more = storage::count_bounds(image, n, sup, image::UPPER);
     let room = room_for_bound(image, repeated, more);
     if let Room::Lacks(r) = room {
         return Step::Refused(r);
     }
-    add_bound(image, repeated, sup, LOWER, sub);
+    add_bound(image, repeated, sup, image::LOWER, sub);
     advance(image, sub, sup);
-    put_bound_pairs(image, sup, UPPER, sub);
+    put_bound_pairs(image, sup, image::UPPER, sub);
     Step::Went
 }
 

@@ -18,12 +18,6 @@ ghost use Rattle.image.specs.Records.{boundAt};
 ghost use Rattle.storage.specs.Bounds.{belongsTo, isBound};
 ghost use Rattle.storage.specs.Replies.{boundReply, enterReply, exitReply};
 
-// A duplicate is looked for while the list holds so many or fewer.
-const SCAN_MOST: u32 = 32;
-
-// The region that lacks a record.
-const BOUNDS: u32 = 3;
-
 // The last level.
 const LEVEL_MOST: u32 = 4294967295;
 
@@ -33,8 +27,8 @@ pub fn belongs(image: &[u32], i: u32, v: u32, side: u32) -> bool
     requires { ⌜ i < length (boundsAll (now image)) ⌝ }
     ensures { λ r. ⌜ r ≡ belongsTo v side (boundAt (boundsAll (now (image .entry))) i) ⌝ }
 {
-    let of = image::bound_word(image, i, 0);
-    let on = image::bound_word(image, i, 1);
+    let of = image::bound_word(image, i, image::VARIABLE_WORD);
+    let on = image::bound_word(image, i, image::SIDE_WORD);
     (of == v) & (on == side)
 }
 
@@ -67,7 +61,7 @@ fn is_bound(image: &[u32], i: u32, v: u32, side: u32, b: u32) -> bool
     ensures { λ r. ⌜ r ≡ isBound v side b (boundAt (boundsAll (now (image .entry))) i) ⌝ }
 {
     let of = belongs(image, i, v, side);
-    let bound = image::bound_word(image, i, 2);
+    let bound = image::bound_word(image, i, image::BOUND_WORD);
     of & (b == bound)
 }
 
@@ -93,7 +87,7 @@ pub fn repeats_bound(image: &[u32], n: u32, v: u32, side: u32, b: u32) -> bool
     requires { ⌜ n ≡ length (boundsAll (now image)) ⌝ }
     ensures { λ r. ⌜ r ≡ repeats (boundsIn (boundsAll (now (image .entry))) v side) b ⌝ }
 {
-    if SCAN_MOST < count_bounds(image, n, v, side) {
+    if image::SCAN_MOST < count_bounds(image, n, v, side) {
         return false;
     }
     has_bound(image, n, v, side, b)
@@ -110,7 +104,7 @@ pub fn put_bound(image: &mut [u32], v: u32, side: u32, b: u32) -> Reply
         return Reply::Done;
     }
     if image::bounds_capacity(image) <= n {
-        return Reply::Refused(Refusal::NoRoom(BOUNDS));
+        return Reply::Refused(Refusal::NoRoom(image::BOUNDS));
     }
     image::push_bound(image, v, side, b);
     Reply::Done

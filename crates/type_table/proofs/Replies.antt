@@ -48,7 +48,7 @@ module _ (w : List ℕ) (m : Making) where
   made-done = made-by false
 
 -- how deep a list of entries is
-some-deep : (es : List Entry) (i : ℕ) → i < length es → spreadMost < spreadAt es i → tooDeep es ≡ true
+pub some-deep : (es : List Entry) (i : ℕ) → i < length es → spreadMost < spreadAt es i → tooDeep es ≡ true
 unfolding tooDeep any
 some-deep [] i lt h = absurd (omega arith)
 some-deep (e ∷ es) zero lt h = rw (lt-ltb spreadMost (e .spread) h)

@@ -18,34 +18,6 @@ ghost use Rattle.image.specs.Laid.{Laid};
 ghost use Rattle.image.specs.Shown.{Shows, Shown, storeOf, entriesOf, fieldsIn, entriesTo, fieldsTo};
 ghost use Rattle.type_table.specs.Made.{madeReply, attrsetReply, firstField, Components, Added, Negatable, NegatedIn};
 
-// The kinds that negation knows, and the one that has fields.
-const ATTRSET: u32 = 4;
-
-const NEG: u32 = 6;
-
-const INTER: u32 = 7;
-
-const UNION: u32 = 8;
-
-// The region that lacks a record.
-const ENTRIES: u32 = 1;
-
-const FIELDS: u32 = 2;
-
-// No new entry spreads further.
-const SPREAD_MOST: u32 = 1024;
-
-// Where an entry has its words.
-const KIND: usize = 0;
-
-const X: usize = 1;
-
-const Y: usize = 2;
-
-const SPREAD: usize = 5;
-
-const NEGATION: usize = 6;
-
 // How far an entry of this kind, with these words, spreads.
 fn spread_of(image: &[u32], kind: u32, x: u32, y: u32) -> u32
     requires { ⌜ Laid (now image) ⌝ }
@@ -55,8 +27,10 @@ fn spread_of(image: &[u32], kind: u32, x: u32, y: u32) -> u32
 {
     match kind {
         0..=4 => 1,
-        5..=6 => 1 + image::entry_word(image, x, SPREAD),
-        _ => 1 + image::entry_word(image, x, SPREAD) + image::entry_word(image, y, SPREAD),
+        5..=6 => 1 + image::entry_word(image, x, image::SPREAD_WORD),
+        _ => 1
+            + image::entry_word(image, x, image::SPREAD_WORD)
+            + image::entry_word(image, y, image::SPREAD_WORD),
     }
 }
 
@@ -69,10 +43,10 @@ pub fn make(image: &mut [u32], kind: u32, x: u32, y: u32) -> Made
 {
     let number = image::entries_count(image);
     if image::entries_capacity(image) <= number {
-        return Made::Refused(Refusal::NoRoom(ENTRIES));
+        return Made::Refused(Refusal::NoRoom(image::ENTRIES));
     }
     let spread = spread_of(image, kind, x, y);
-    if SPREAD_MOST < spread {
+    if image::SPREAD_MOST < spread {
         return Made::Refused(Refusal::TooDeep);
     }
     image::push_entry(image, kind, x, y, 0, 0, spread);
@@ -120,7 +94,7 @@ pub fn undo(image: &mut [u32], old: u32)
     pop_to(image, old);
     let mut i: u32 = 0;
     while i < old {
-        if old < image::entry_word(image, i, NEGATION) {
+        if old < image::entry_word(image, i, image::NEGATION_WORD) {
             image::put_negation(image, i, 0);
         }
         i += 1;
@@ -132,29 +106,31 @@ pub fn negate(image: &mut [u32], n: u32) -> Negated
     requires { ⌜ Negatable (now image) n ⌝ }
     ensures { λ r. ⌜ NegatedIn (table (now (image .entry))) n r (now (image .exit)) ⌝ }
 {
-    let cached = image::entry_word(image, n, NEGATION);
+    let cached = image::entry_word(image, n, image::NEGATION_WORD);
     if 0 < cached {
         return Negated::Number(cached - 1);
     }
-    let kind = image::entry_word(image, n, KIND);
-    if kind < NEG {
-        let spread = 1 + image::entry_word(image, n, SPREAD);
-        return add(image, NEG, n, 0, spread, n);
+    let kind = image::entry_word(image, n, image::KIND_WORD);
+    if kind < image::NEG {
+        let spread = 1 + image::entry_word(image, n, image::SPREAD_WORD);
+        return add(image, image::NEG, n, 0, spread, n);
     }
-    let x = image::entry_word(image, n, X);
-    if kind < INTER {
+    let x = image::entry_word(image, n, image::X_WORD);
+    if kind < image::INTER {
         return Negated::Number(x);
     }
-    let y = image::entry_word(image, n, Y);
+    let y = image::entry_word(image, n, image::Y_WORD);
     let Negated::Number(p) = negate(image, x) else {
         return Negated::Full;
     };
     let Negated::Number(q) = negate(image, y) else {
         return Negated::Full;
     };
-    let spread = 1 + image::entry_word(image, p, SPREAD) + image::entry_word(image, q, SPREAD);
+    let spread = 1
+        + image::entry_word(image, p, image::SPREAD_WORD)
+        + image::entry_word(image, q, image::SPREAD_WORD);
     // the inter of negations for a union, and the other way round
-    add(image, INTER + UNION - kind, p, q, spread, n)
+    add(image, image::INTER + image::UNION - kind, p, q, spread, n)
 }
 
 // Makes Neg(n), or leaves every word as found.
@@ -167,9 +143,9 @@ pub fn make_neg(image: &mut [u32], n: u32) -> Made
     let old = image::entries_count(image);
     let Negated::Number(k) = negate(image, n) else {
         undo(image, old);
-        return Made::Refused(Refusal::NoRoom(ENTRIES)); // however deep it would go
+        return Made::Refused(Refusal::NoRoom(image::ENTRIES)); // however deep it would go
     };
-    if SPREAD_MOST < image::entry_word(image, k, SPREAD) {
+    if image::SPREAD_MOST < image::entry_word(image, k, image::SPREAD_WORD) {
         undo(image, old);
         return Made::Refused(Refusal::TooDeep);
     }
@@ -240,19 +216,19 @@ pub fn make_attrset(image: &mut [u32], fields: &[u32], is_open: bool, dynamic: D
 {
     let number = image::entries_count(image);
     if image::entries_capacity(image) <= number {
-        return Made::Refused(Refusal::NoRoom(ENTRIES));
+        return Made::Refused(Refusal::NoRoom(image::ENTRIES));
     }
     let old = image::fields_count(image);
     let room = image::fields_capacity(image) - old;
     let n = fields.len() / image::FIELD_WIDTH;
     if wide(room) < n {
-        return Made::Refused(Refusal::NoRoom(FIELDS));
+        return Made::Refused(Refusal::NoRoom(image::FIELDS));
     }
     put_fields(image, fields, n);
     let count = n as u32;
     let first = first_field(old, count);
     let typed = dynamic_type(dynamic);
     let flags = open_bit(is_open) + dynamic_bit(dynamic);
-    image::push_entry(image, ATTRSET, first, count, typed, flags, 1);
+    image::push_entry(image, image::ATTRSET, first, count, typed, flags, 1);
     Made::Number(number)
 }

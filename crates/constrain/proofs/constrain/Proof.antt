@@ -1,3 +1,4 @@
+-- `constrain`: a pair that is neither of equal numbers nor visited.
 use mathlib.Core.Path.{sym, _∙_}
 use Rattle.model.specs.Rules.{pairRule}
 use borrow.Author.Needs.{needs}

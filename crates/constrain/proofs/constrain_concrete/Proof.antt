@@ -1,3 +1,4 @@
+-- `constrain_concrete`: two concrete entries come to what the rule that fits them says.
 use mathlib.Core.Path.{refl}
 use denote.Ref.{now}
 use Rattle.model.specs.Rules.{byArm}

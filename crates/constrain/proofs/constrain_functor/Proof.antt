@@ -1,3 +1,4 @@
+-- `constrain_functor`: an attrset under lambda(param, body): by its field `__functor`.
 use native.Mathlib.Omega.{arith}
 use mathlib.Core.Path.{sym, _∙_}
 use Rattle.disjoint.proofs.Finding.{functor-found, functor-there, functor-nothing}

@@ -1,3 +1,4 @@
+-- `constrain_lhs_inter`: Inter(a, b) on the left.
 use mathlib.Core.Path.{sym, _∙_}
 use Rattle.model.specs.Rules.{leftInter}
 use borrow.Author.Needs.{needs}

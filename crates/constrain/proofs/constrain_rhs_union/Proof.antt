@@ -1,3 +1,4 @@
+-- `constrain_rhs_union`: Union(a, b) on the right.
 use mathlib.Core.Path.{sym, _∙_}
 use Rattle.model.specs.Rules.{rightBoth, rightUnion}
 use borrow.Author.Needs.{needs}

@@ -1,3 +1,4 @@
+-- `constrain_under_neg`: sub, neither inter nor union, under neg n.
 use mathlib.Core.Path.{sym, _∙_}
 use Rattle.model.specs.Rules.{underNegation}
 use borrow.Author.Needs.{needs}

@@ -1,3 +1,4 @@
+-- `decide`: the rule that fits two kinds, as the rules say it.
 use Rattle.constrain.proofs.Leaf.{leaf}
 use borrow.Author.Needs.{needs}
 use Rattle.constrain.proofs.decide.Statement.{statement}

@@ -1,3 +1,4 @@
+-- `discriminant_matches`: whether entries a and b have the same kind.
 use Rattle.model.specs.Table.{is, isAt}
 use borrow.Author.Needs.{needs}
 use Rattle.constrain.proofs.discriminant_matches.Statement.{statement}

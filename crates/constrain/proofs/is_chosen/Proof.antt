@@ -1,3 +1,4 @@
+-- `is_chosen`: whether side a of an inter is chosen before side b.
 use mathlib.Core.Path.{sym, _∙_}
 use Rattle.model.specs.Rules.{chosen}
 use borrow.Author.Needs.{needs}

@@ -1,3 +1,4 @@
+-- `is_var`: whether entry n is a variable.
 use Rattle.model.specs.Table.{is, isAt}
 use borrow.Author.Needs.{needs}
 use Rattle.constrain.proofs.is_var.Statement.{statement}

@@ -1,3 +1,4 @@
+-- `isolate`: side c of an inter chosen, d the other.
 use mathlib.Core.Path.{sym, _∙_}
 use Rattle.model.specs.Rules.{isolate}
 use borrow.Author.Needs.{needs}

@@ -1,3 +1,4 @@
+-- `rhs_concrete`: a union of two concrete sides on the right.
 use mathlib.Core.Path.{sym, _∙_}
 use Rattle.model.specs.Rules.{rightOne, rightClosed}
 use borrow.Author.Needs.{needs}

@@ -1,3 +1,4 @@
+-- `rhs_one_variable`: a union with one variable on the right: c is the concrete side, v the variable.
 use mathlib.Core.Path.{sym, _∙_}
 use Rattle.model.specs.Rules.{rightOne, rightOpen}
 use borrow.Author.Needs.{needs}

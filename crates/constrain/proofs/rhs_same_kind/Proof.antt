@@ -1,3 +1,4 @@
+-- `rhs_same_kind`: a union of which neither side is disjoint from sub: the one of the same kind if only one is, else both.
 use mathlib.Core.Path.{sym, _∙_}
 use Rattle.model.specs.Rules.{rightBoth, rightOne, rightKind}
 use borrow.Author.Needs.{needs}

@@ -1,3 +1,4 @@
+-- `words_of`: the words of entry n.
 use borrow.Author.Needs.{needs}
 use Rattle.constrain.proofs.words_of.Statement.{statement}
 use Rattle.constrain.proofs.words_of.Tie as tie

@@ -1,3 +1,4 @@
+-- `disjoint_from_sup`: whether entry n, or a member of it through inter, is disjoint from entry sup.
 use mathlib.Core.Path.{sym, _∙_}
 use native.Mathlib.Omega.{arith}
 use borrow.Author.Needs.{needs}

@@ -1,3 +1,4 @@
+-- `holds_variable`: whether entry n is a variable, or leads to one through inter and named.
 use mathlib.Core.Path.{sym, _∙_}
 use native.Mathlib.Omega.{arith}
 use borrow.Author.Needs.{needs}

@@ -1,3 +1,4 @@
+-- `union_member`: whether m is entry n itself, or a member of it through unions and named.
 use mathlib.Core.Path.{sym, _∙_}
 use native.Mathlib.Omega.{arith}
 use borrow.Author.Needs.{needs}

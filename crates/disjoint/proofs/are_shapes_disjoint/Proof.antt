@@ -1,3 +1,4 @@
+-- `are_shapes_disjoint`: whether two shapes share no value: different constructors do not, but a callable attrset may be a lambda.
 use mathlib.Core.Path.{ap, _∙_}
 use mathlib.Core.Bool.{not}
 use Rattle.disjoint.proofs.Shapes.{shapes-are, attrset-inside}

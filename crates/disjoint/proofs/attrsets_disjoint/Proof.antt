@@ -1,3 +1,4 @@
+-- `attrsets_disjoint`: whether one is closed, and lacks a field that the other requires.
 use mathlib.Core.Path.{sym, _∙_}
 use Rattle.disjoint.specs.Shapes.{attrsetsDisjointIn}
 use borrow.Author.Needs.{needs}

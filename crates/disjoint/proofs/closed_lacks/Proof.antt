@@ -1,3 +1,4 @@
+-- `closed_lacks`: whether a is closed, and lacks a field that b requires.
 use mathlib.Core.Path.{_∙_}
 use Rattle.disjoint.proofs.Shapes.{open-lacks, shut-lacks}
 use borrow.Author.Needs.{needs}

@@ -1,3 +1,4 @@
+-- `compatible`: whether entry a could be under entry b.
 use mathlib.Core.Path.{sym, _∙_}
 use Rattle.disjoint.proofs.Shapes.{same-kind, to-named, to-lambda, to-other}
 use borrow.Author.Needs.{needs}

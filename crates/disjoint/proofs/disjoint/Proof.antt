@@ -1,3 +1,4 @@
+-- `disjoint`: whether entries a and b share no value.
 use mathlib.Core.Path.{_∙_}
 use Rattle.disjoint.proofs.Shapes.{shape-inside, disjoint-by}
 use borrow.Author.Needs.{needs}

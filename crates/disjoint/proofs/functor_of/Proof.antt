@@ -1,3 +1,4 @@
+-- `functor_of`: the record of the field `__functor` of entry n, if it is an attrset that has one.
 use mathlib.Core.Path.{sym, _∙_}
 use Rattle.disjoint.proofs.Shapes.{shape-inside, functor-at, functor-none}
 use borrow.Author.Needs.{needs}

@@ -1,3 +1,4 @@
+-- `has_functor`: whether entry n is an attrset with a field `__functor`.
 use mathlib.Core.Path.{ap, _∙_}
 use Rattle.disjoint.specs.Fields.{isFound}
 use Rattle.disjoint.proofs.Fields.{functor-has}

@@ -1,3 +1,4 @@
+-- `is_callable`: whether the attrset has a field `__functor`, which makes it callable.
 use native.Mathlib.Omega.{arith}
 use mathlib.Core.Path.{ap, _∙_}
 use Rattle.disjoint.specs.Fields.{isFound}

@@ -1,3 +1,4 @@
+-- `is_subtype_of`: whether p is a proper subtype of q: Int or Float under Number.
 use Rattle.disjoint.proofs.Shapes.{int-under, float-under, not-under}
 use Rattle.disjoint.proofs.is_subtype_of.Statement.{statement}
 use Rattle.disjoint.proofs.is_subtype_of.Tie as tie

@@ -1,3 +1,4 @@
+-- `lacks_field`: whether field record j is not optional, and no field of a has its name.
 use mathlib.Core.Path.{sym, _∙_}
 use Rattle.disjoint.proofs.Shapes.{optional, required}
 use borrow.Author.Needs.{needs}

@@ -1,3 +1,4 @@
+-- `primitives_disjoint`: whether two primitives are unequal, and neither is a subtype of the other.
 use mathlib.Core.Path.{_≡_, sym, ap, _∙_}
 use mathlib.Core.Bool.{true, false, not}
 use borrow.Author.Tests.{eq-eqb, ne-eqb}

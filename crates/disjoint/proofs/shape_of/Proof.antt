@@ -1,3 +1,4 @@
+-- `shape_of`: the shape of an entry that was read out.
 use mathlib.Core.Path.{sym, ap}
 use Rattle.disjoint.specs.Shapes.{shapeOf}
 use borrow.Author.Needs.{needs}

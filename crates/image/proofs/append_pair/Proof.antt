@@ -1,3 +1,4 @@
+-- `append_pair`: puts a pair behind the last of a region.
 use Rattle.image.proofs.Lent.{back-record}
 use denote.Ref.{now}
 use lib.ListN.{set, getD}

@@ -1,3 +1,4 @@
+-- `append_triple`: puts a triple behind the last of a region.
 use Rattle.image.proofs.Lent.{back-record}
 use denote.Ref.{now}
 use lib.ListN.{set, getD}

@@ -1,3 +1,4 @@
+-- `attrset`: an attrset from its entry's words.
 use borrow.Author.Needs.{needs}
 use Rattle.image.proofs.attrset.Statement.{statement}
 use Rattle.image.proofs.attrset.Tie as tie

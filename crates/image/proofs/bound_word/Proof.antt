@@ -1,3 +1,4 @@
+-- `bound_word`: word j of bound record i.
 use native.Mathlib.Omega.{arith}
 use mathlib.Core.Path.{sym}
 use denote.Ref.{now}

@@ -1,3 +1,4 @@
+-- `bounds_count`: how many bound records: the word that the header has.
 use mathlib.Core.Path.{sym}
 use Rattle.image.proofs.Reading.{bounds-count}
 use borrow.Author.Needs.{needs}

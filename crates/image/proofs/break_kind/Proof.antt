@@ -1,3 +1,4 @@
+-- `break_kind`: the break kind: the word that the header has.
 use mathlib.Core.Path.{refl}
 use Rattle.model.specs.Image.{table}
 use borrow.Author.Needs.{needs}

@@ -1,3 +1,4 @@
+-- `break_name`: the break's name: the word that the header has.
 use mathlib.Core.Path.{refl}
 use Rattle.model.specs.Image.{table}
 use borrow.Author.Needs.{needs}

@@ -1,3 +1,4 @@
+-- `capacities_right`: whether an image can be started so.
 use Rattle.image.proofs.Starting.{tests-are}
 use Rattle.image.specs.Stores.{capacitiesOf}
 use denote.Ref.{now}

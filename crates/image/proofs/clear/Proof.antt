@@ -1,3 +1,4 @@
+-- `clear`: zeroes every word.
 use Rattle.image.proofs.Starting.{Zeroed, zeroed-start, zeroed-length, zeroed-more, zeroed-end}
 use borrow.Author.Needs.{needs}
 use lib.ListN.{length}

@@ -1,3 +1,4 @@
+-- `clear_pending`: takes every pending pair off.
 use Rattle.image.proofs.Pending.{Emptying, emptying-start, emptying-more, emptying-less, emptying-end, emptying-size}
 use Rattle.image.proofs.Places.{facts}
 use Rattle.image.proofs.Laying.{shown}

@@ -1,3 +1,4 @@
+-- `dynamic`: the dynamic type that the flags and z of an attrset tell.
 use mathlib.Core.Path.{_≡_, sym, _∙_}
 use mathlib.Core.Bool.{true, false}
 use borrow.Author.Needs.{needs}

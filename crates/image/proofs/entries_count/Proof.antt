@@ -1,3 +1,4 @@
+-- `entries_count`: how many entries: the word that the header has.
 use mathlib.Core.Path.{sym}
 use Rattle.image.proofs.Reading.{entries-count}
 use borrow.Author.Needs.{needs}

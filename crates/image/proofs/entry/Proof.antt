@@ -1,3 +1,4 @@
+-- `entry`: entry i, read out by value.
 use borrow.Author.Needs.{needs}
 use Rattle.image.proofs.ReadOut.{read-variable, read-primitive, read-list, read-lambda, read-attrset, read-named, read-neg, read-inter, read-union}
 use Rattle.image.proofs.entry.Statement.{statement}

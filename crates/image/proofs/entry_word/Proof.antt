@@ -1,3 +1,4 @@
+-- `entry_word`: word j of entry i.
 use native.Mathlib.Omega.{arith}
 use mathlib.Core.Path.{sym}
 use denote.Ref.{now}

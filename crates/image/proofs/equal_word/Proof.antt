@@ -1,3 +1,4 @@
+-- `equal_word`: word j of equal pair i.
 use native.Mathlib.Omega.{arith}
 use mathlib.Core.Path.{sym}
 use denote.Ref.{now}

@@ -1,3 +1,4 @@
+-- `equals_count`: how many equal pairs: the word that the header has.
 use mathlib.Core.Path.{sym}
 use Rattle.image.proofs.Reading.{equals-count}
 use borrow.Author.Needs.{needs}

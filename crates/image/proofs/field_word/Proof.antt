@@ -1,3 +1,4 @@
+-- `field_word`: word j of field record i.
 use native.Mathlib.Omega.{arith}
 use mathlib.Core.Path.{sym}
 use denote.Ref.{now}

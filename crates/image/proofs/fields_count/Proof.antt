@@ -1,3 +1,4 @@
+-- `fields_count`: how many field records: the word that the header has.
 use mathlib.Core.Path.{sym}
 use Rattle.image.proofs.Reading.{fields-count}
 use borrow.Author.Needs.{needs}

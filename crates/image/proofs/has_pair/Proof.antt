@@ -1,3 +1,4 @@
+-- `has_pair`: whether the pair (a, b) is among the first n of a region that is lent from its offset on.
 use Rattle.image.proofs.Searching.{miss, hit, is-same, is-other}
 use Rattle.model.specs.Rules.{samePair}
 use Rattle.model.specs.Image.{pairOf}

@@ -1,3 +1,4 @@
+-- `is_asked`: whether a question is asked.
 use Rattle.image.proofs.Places.{facts}
 use Rattle.model.specs.Image.{word, words, header}
 use Rattle.model.specs.Table.{isAsked}

@@ -1,3 +1,4 @@
+-- `level`: the current level: the word that the header has.
 use mathlib.Core.Path.{refl}
 use Rattle.model.specs.Image.{table}
 use borrow.Author.Needs.{needs}

@@ -1,3 +1,4 @@
+-- `pending_count`: how many pending pairs: the word that the header has.
 use mathlib.Core.Path.{sym}
 use Rattle.image.proofs.Reading.{pending-count}
 use borrow.Author.Needs.{needs}

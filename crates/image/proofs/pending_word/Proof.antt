@@ -1,3 +1,4 @@
+-- `pending_word`: word j of pending pair i.
 use native.Mathlib.Omega.{arith}
 use mathlib.Core.Path.{sym}
 use denote.Ref.{now}

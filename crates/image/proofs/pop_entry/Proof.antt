@@ -1,3 +1,4 @@
+-- `pop_entry`: takes the last entry off, and its words with it.
 use Rattle.image.proofs.Places.{facts, become, entry-popped}
 use denote.Ref.{now}
 use native.Mathlib.Omega.{arith}

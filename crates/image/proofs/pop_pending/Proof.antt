@@ -1,3 +1,4 @@
+-- `pop_pending`: takes the last pending pair off; the state goes idle with the last of all.
 use Rattle.image.proofs.Pending.{pending-popped}
 use Rattle.image.proofs.Places.{facts, become}
 use lib.ListN.{set}

@@ -1,3 +1,4 @@
+-- `push_bound`: puts a bound behind the last.
 use Rattle.image.proofs.Places.{facts, become, shows-pushed, bounds-part}
 use Rattle.laws.proofs.Regions.{bound-coded}
 use native.Mathlib.Omega.{arith}

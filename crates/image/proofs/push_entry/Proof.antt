@@ -1,3 +1,4 @@
+-- `push_entry`: puts an entry behind the last.
 use Rattle.image.specs.Records.{entryMade}
 use Rattle.model.specs.Image.{entryWords}
 use lib.Seq.{sets}

@@ -1,3 +1,4 @@
+-- `push_equal`: records a pair as asked equal.
 use Rattle.model.specs.Table.{_⊑_}
 use Rattle.image.proofs.Places.{facts, become, shows-pushed, equals-part}
 use Rattle.laws.proofs.Regions.{pair-coded}

@@ -1,3 +1,4 @@
+-- `push_field`: puts a field record behind the last.
 use Rattle.image.proofs.Places.{facts, become, shows-pushed, fields-part}
 use Rattle.laws.proofs.Regions.{field-coded}
 use native.Mathlib.Omega.{arith}

@@ -1,3 +1,4 @@
+-- `push_pending`: puts a pair behind the last pending one, and the state to asked.
 use Rattle.image.proofs.Pending.{pending-pushed}
 use Rattle.image.proofs.Places.{facts, become}
 use lib.ListN.{set}

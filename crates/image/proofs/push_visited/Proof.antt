@@ -1,3 +1,4 @@
+-- `push_visited`: records a pair as visited.
 use Rattle.model.specs.Table.{_⊑_}
 use Rattle.image.proofs.Places.{facts, become, shows-pushed, visited-part}
 use Rattle.laws.proofs.Regions.{pair-coded}

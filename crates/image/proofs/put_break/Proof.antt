@@ -1,3 +1,4 @@
+-- `put_break`: writes the break words.
 use Rattle.image.proofs.Pending.{shows-broken}
 use Rattle.image.proofs.Places.{facts}
 use lib.ListN.{length-set}

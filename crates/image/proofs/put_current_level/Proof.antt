@@ -1,3 +1,4 @@
+-- `put_current_level`: puts the current level.
 use Rattle.image.proofs.Pending.{shows-level}
 use Rattle.image.proofs.Places.{facts}
 use native.Mathlib.Omega.{arith}

@@ -1,3 +1,4 @@
+-- `put_entry_word`: writes word j of entry i.
 use Rattle.image.proofs.Reading.{entries-count}
 use denote.Ref.{now}
 use native.Mathlib.Omega.{arith}

@@ -1,3 +1,4 @@
+-- `put_front`: writes the format, the name count and the functor word.
 use lib.ListN.{length-set}
 use native.Mathlib.Omega.{arith}
 use borrow.Author.Needs.{needs}

@@ -1,3 +1,4 @@
+-- `put_header`: writes the header of an empty image over zeroes.
 use Rattle.image.specs.Stores.{headed}
 use native.Mathlib.Omega.{arith}
 use borrow.Author.Needs.{needs}

@@ -1,3 +1,4 @@
+-- `put_level`: puts entry i, a variable, at level l.
 use Rattle.image.proofs.Places.{become, entry-put}
 use Rattle.image.proofs.Laying.{shown-laid}
 use Rattle.model.specs.Calls.{withX}

@@ -1,3 +1,4 @@
+-- `put_mark`: marks entry i.
 use Rattle.image.proofs.Places.{become, entry-put}
 use Rattle.image.proofs.Laying.{shown-laid}
 use Rattle.image.specs.Shown.{entriesOf}

@@ -1,3 +1,4 @@
+-- `put_negation`: caches a negation at entry i: c is its number plus 1, or 0.
 use Rattle.image.proofs.Places.{become, entry-put}
 use Rattle.image.proofs.Laying.{shown-laid}
 use Rattle.model.specs.Making.{withNegation}

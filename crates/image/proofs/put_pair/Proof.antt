@@ -1,3 +1,4 @@
+-- `put_pair`: writes a pair as record n of a region.
 use native.Mathlib.Numerals.{add-one}
 use lib.ListN.{length-set}
 use native.Mathlib.Omega.{arith}

@@ -1,3 +1,4 @@
+-- `put_region`: writes region k's words of the header.
 use Rattle.image.proofs.Lent.{back-sets}
 use denote.Ref.{now}
 use mathlib.Core.List.{[], _∷_}

@@ -1,3 +1,4 @@
+-- `put_triple`: writes a triple as record n of a region.
 use mathlib.Core.Path.{_≡_}
 use Prim.Native.Nat.{suc, _+_, _*_}
 use lib.ListN.{length-set}

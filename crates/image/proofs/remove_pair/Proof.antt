@@ -1,3 +1,4 @@
+-- `remove_pair`: takes the last pair off a region, and its words with it.
 use Rattle.image.proofs.Lent.{back-record}
 use denote.Ref.{now}
 use lib.ListN.{set, getD}

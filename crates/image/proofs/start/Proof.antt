@@ -1,3 +1,4 @@
+-- `start`: starts an image, or refuses and leaves every word as found.
 use Rattle.image.proofs.Starting.{right-size, right-small, start-refused, start-done}
 use Rattle.image.specs.Stores.{capacitiesOf}
 use Rattle.laws.proofs.Tests.{of-true}

@@ -1,3 +1,4 @@
+-- `state_of`: the state where n pairs are pending.
 use borrow.Author.Tests.{eq-eqb, ne-eqb}
 use Rattle.image.proofs.state_of.Statement.{statement}
 use Rattle.image.proofs.state_of.Tie as tie

@@ -1,3 +1,4 @@
+-- `visited_count`: how many visited pairs: the word that the header has.
 use mathlib.Core.Path.{sym}
 use Rattle.image.proofs.Reading.{visited-count}
 use borrow.Author.Needs.{needs}

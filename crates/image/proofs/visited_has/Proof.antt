@@ -1,3 +1,4 @@
+-- `visited_has`: whether a pair was visited.
 use Rattle.image.proofs.Searching.{visited-by}
 use Rattle.model.specs.Table.{_⊑_}
 use denote.Ref.{now}

@@ -1,3 +1,4 @@
+-- `visited_word`: word j of visited pair i.
 use native.Mathlib.Omega.{arith}
 use mathlib.Core.Path.{sym}
 use denote.Ref.{now}

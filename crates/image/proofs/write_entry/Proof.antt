@@ -1,3 +1,4 @@
+-- `write_entry`: writes the seven words of an entry from a word on.
 use native.Mathlib.Omega.{arith}
 use lib.ListN.{length-set}
 use denote.Ref.{now}

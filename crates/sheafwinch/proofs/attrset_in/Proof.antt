@@ -1,3 +1,4 @@
+-- `attrset_in`: makes an attrset, in a well formed image.
 use mathlib.Core.Path.{sym, _∙_}
 use denote.Ref.{now}
 use borrow.Author.Tests.{not-true, not-false}

@@ -1,3 +1,4 @@
+-- `disjoint_in`: tells whether two entries share no value, in a well formed image.
 use native.Mathlib.Omega.{arith}
 use mathlib.Core.Path.{_≡_, refl, sym, ap, _∙_}
 use mathlib.Core.Bool.{Bool, true, false, cond, _&&_}

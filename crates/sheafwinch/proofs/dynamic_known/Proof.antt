@@ -1,3 +1,4 @@
+-- `dynamic_known`: whether a dynamic type, where there is one, is an entry.
 use Rattle.model.specs.Formed.{isEntry}
 use Rattle.model.specs.Calls.{dynamicKnown}
 use Rattle.image.proofs.Laying.{formed-laid}

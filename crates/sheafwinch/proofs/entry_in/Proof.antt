@@ -1,3 +1,4 @@
+-- `entry_in`: reads an entry out, in a well formed image.
 use native.Mathlib.Omega.{arith}
 use mathlib.Core.Path.{_≡_, refl, sym, ap, _∙_}
 use mathlib.Core.Bool.{true, false}

@@ -1,3 +1,4 @@
+-- `equal_record`: reads the record of an equal pair, or refuses its number.
 use native.Mathlib.Omega.{arith}
 use mathlib.Core.Path.{refl, ap}
 use mathlib.Core.Bool.{_&&_}

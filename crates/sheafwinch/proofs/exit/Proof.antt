@@ -1,3 +1,4 @@
+-- `exit`: leaves a level.
 use mathlib.Core.Path.{_≡_, sym, _∙_}
 use mathlib.Core.Bool.{false}
 use lib.Dec.{T}

@@ -1,3 +1,4 @@
+-- `exit_in`: leaves a level, in a well formed image.
 use mathlib.Core.Path.{sym, _∙_}
 use denote.Ref.{now}
 use borrow.Author.Needs.{needs}

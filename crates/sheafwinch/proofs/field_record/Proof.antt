@@ -1,3 +1,4 @@
+-- `field_record`: reads the record of a field, or refuses its number.
 use native.Mathlib.Omega.{arith}
 use mathlib.Core.Path.{refl, ap}
 use mathlib.Core.Bool.{_&&_}

@@ -1,3 +1,4 @@
+-- `level_in`: sets a variable's level, in a well formed image.
 use native.Mathlib.Omega.{arith}
 use mathlib.Core.Path.{sym, _∙_}
 use denote.Ref.{now}

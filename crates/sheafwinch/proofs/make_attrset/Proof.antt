@@ -1,3 +1,4 @@
+-- `make_attrset`: makes an attrset with the fields of a list, triples of a name, an entry and optional.
 use mathlib.Core.Path.{_≡_, sym, _∙_}
 use mathlib.Core.Bool.{false}
 use lib.Dec.{T}

@@ -1,3 +1,4 @@
+-- `make_inter`: makes an intersection.
 use mathlib.Core.Path.{_≡_, sym, _∙_}
 use mathlib.Core.Bool.{false}
 use lib.Dec.{T}

@@ -1,3 +1,4 @@
+-- `make_lambda`: makes a lambda.
 use mathlib.Core.Path.{_≡_, sym, _∙_}
 use mathlib.Core.Bool.{false}
 use lib.Dec.{T}

@@ -1,3 +1,4 @@
+-- `make_list`: makes a list of an element.
 use native.Mathlib.Omega.{arith}
 use mathlib.Core.Path.{_≡_, sym, _∙_}
 use mathlib.Core.Bool.{false}

@@ -1,3 +1,4 @@
+-- `make_named`: makes a named entry; the label is never tested.
 use native.Mathlib.Omega.{arith}
 use mathlib.Core.Path.{_≡_, sym, _∙_}
 use mathlib.Core.Bool.{false}

@@ -1,3 +1,4 @@
+-- `make_neg`: makes the negation of an entry, or answers the one that stands there.
 use mathlib.Core.Path.{_≡_, sym, _∙_}
 use mathlib.Core.Bool.{false}
 use lib.Dec.{T}

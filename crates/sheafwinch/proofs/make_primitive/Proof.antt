@@ -1,3 +1,4 @@
+-- `make_primitive`: makes a primitive, 0 to 7.
 use mathlib.Core.Path.{_≡_, sym, _∙_}
 use mathlib.Core.Bool.{false}
 use lib.Dec.{T}

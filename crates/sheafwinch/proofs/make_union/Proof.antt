@@ -1,3 +1,4 @@
+-- `make_union`: makes a union.
 use mathlib.Core.Path.{_≡_, sym, _∙_}
 use mathlib.Core.Bool.{false}
 use lib.Dec.{T}

@@ -1,3 +1,4 @@
+-- `make_variable`: makes a variable at the current level.
 use mathlib.Core.Path.{_≡_, sym, _∙_}
 use mathlib.Core.Bool.{false}
 use lib.Dec.{T}

@@ -1,3 +1,4 @@
+-- `mark`: sets the default mark of an entry.
 use mathlib.Core.Path.{_≡_, sym, _∙_}
 use mathlib.Core.Bool.{false}
 use lib.Dec.{T}

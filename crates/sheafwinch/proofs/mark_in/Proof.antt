@@ -1,3 +1,4 @@
+-- `mark_in`: marks an entry, in a well formed image.
 use native.Mathlib.Omega.{arith}
 use mathlib.Core.Path.{sym, _∙_}
 use denote.Ref.{now}

@@ -1,3 +1,4 @@
+-- `neg_in`: makes a negation, in a well formed image.
 use native.Mathlib.Omega.{arith}
 use mathlib.Core.Path.{sym, _∙_}
 use denote.Ref.{now}

@@ -1,3 +1,4 @@
+-- `one_in`: makes an entry of one component, in a well formed image.
 use native.Mathlib.Omega.{arith}
 use mathlib.Core.Path.{sym, _∙_}
 use denote.Ref.{now}

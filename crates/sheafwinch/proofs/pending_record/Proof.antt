@@ -1,3 +1,4 @@
+-- `pending_record`: reads the record of a pending pair, or refuses its number.
 use native.Mathlib.Omega.{arith}
 use mathlib.Core.Path.{refl, ap}
 use mathlib.Core.Bool.{_&&_}

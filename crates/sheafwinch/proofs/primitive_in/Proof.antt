@@ -1,3 +1,4 @@
+-- `primitive_in`: makes a primitive, in a well formed image.
 use native.Mathlib.Omega.{arith}
 use mathlib.Core.Path.{sym, _∙_}
 use lib.Dec.{leb}

@@ -1,3 +1,4 @@
+-- `put_bound`: puts a bound of a variable, on side 0 lower or 1 upper.
 use mathlib.Core.Path.{_≡_, sym, _∙_}
 use mathlib.Core.Bool.{false}
 use lib.Dec.{T}

@@ -1,3 +1,4 @@
+-- `record`: reads record n of a region, 1 to 6, as it stands.
 use mathlib.Core.Path.{_≡_, sym, _∙_}
 use mathlib.Core.Bool.{false}
 use lib.Dec.{T}

@@ -1,3 +1,4 @@
+-- `record_in`: reads a record of a region, in a well formed image.
 use mathlib.Core.Bool.{_&&_}
 use denote.Ref.{now}
 use lib.Dec.{ltb}

@@ -1,3 +1,4 @@
+-- `two_in`: makes an entry of two components, in a well formed image.
 use native.Mathlib.Omega.{arith}
 use mathlib.Core.Path.{sym, _∙_}
 use mathlib.Core.Bool.{_&&_}

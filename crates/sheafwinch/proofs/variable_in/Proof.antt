@@ -1,3 +1,4 @@
+-- `variable_in`: makes a variable, in a well formed image.
 use mathlib.Core.Path.{sym, _∙_}
 use denote.Ref.{now}
 use borrow.Author.Needs.{needs}

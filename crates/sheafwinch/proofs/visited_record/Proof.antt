@@ -1,3 +1,4 @@
+-- `visited_record`: reads the record of a visited pair, or refuses its number.
 use native.Mathlib.Omega.{arith}
 use mathlib.Core.Path.{refl, ap}
 use mathlib.Core.Bool.{_&&_}

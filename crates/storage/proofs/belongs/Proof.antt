@@ -1,3 +1,4 @@
+-- `belongs`: whether bound record i is one of the variable v on that side.
 use borrow.Author.Needs.{needs}
 use Rattle.storage.proofs.belongs.Statement.{statement}
 use Rattle.storage.proofs.belongs.Tie as tie

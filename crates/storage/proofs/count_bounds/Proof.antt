@@ -1,3 +1,4 @@
+-- `count_bounds`: how many bounds v has on a side, among the first n records.
 use Prim.Native.Nat.{_≤_, _-_}
 use native.Mathlib.Omega.{arith}
 use denote.Ref.{now}

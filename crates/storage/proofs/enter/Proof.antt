@@ -1,3 +1,4 @@
+-- `enter`: enters a level, unless it is the last.
 use native.Mathlib.Omega.{arith}
 use Rattle.image.proofs.Laying.{shown-laid}
 use Rattle.storage.proofs.Told.{enter-refused, entered}

@@ -1,3 +1,4 @@
+-- `exit`: leaves a level, unless it is 0.
 use native.Mathlib.Omega.{arith}
 use Rattle.image.proofs.Laying.{shown-laid}
 use Rattle.storage.proofs.Told.{exit-refused, exited}

@@ -1,3 +1,4 @@
+-- `has_bound`: whether b is among the bounds of v on a side, of the first n records.
 use Prim.Native.Nat.{_≤_, _-_}
 use native.Mathlib.Omega.{arith}
 use mathlib.Core.Path.{refl, sym, _∙_}

@@ -1,3 +1,4 @@
+-- `is_bound`: whether bound record i is b, for the variable v on that side.
 use borrow.Author.Needs.{needs}
 use Rattle.storage.proofs.is_bound.Statement.{statement}
 use Rattle.storage.proofs.is_bound.Tie as tie

@@ -1,3 +1,4 @@
+-- `mark`: marks entry n.
 use Rattle.model.specs.Making.{markEntry}
 use borrow.Author.Needs.{needs}
 use Rattle.storage.proofs.mark.Statement.{statement}

@@ -1,3 +1,4 @@
+-- `put_bound`: puts b as a bound of v on a side, unless it would repeat one.
 use native.Mathlib.Omega.{arith}
 use mathlib.Core.Path.{sym, _∙_}
 use Rattle.image.proofs.Laying.{formed-shown, formed-laid}

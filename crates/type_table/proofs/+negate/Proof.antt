@@ -1,3 +1,4 @@
+-- `negate`: makes Neg(n), entry by entry, as far as there is room.
 use native.Mathlib.Omega.{arith}
 use denote.Ref.{now}
 use borrow.Author.Needs.{needs}

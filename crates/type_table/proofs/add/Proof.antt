@@ -1,3 +1,4 @@
+-- `add`: puts an entry, cached as the negation of n, if there is room.
 use native.Mathlib.Omega.{arith}
 use denote.Ref.{now}
 use Rattle.image.proofs.Laying.{shown, shown-laid}

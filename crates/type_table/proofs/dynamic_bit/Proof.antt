@@ -1,3 +1,4 @@
+-- `dynamic_bit`: the flag that says that there is a dynamic type.
 use native.Mathlib.Omega.{arith}
 use mathlib.Core.Path.{refl}
 use Rattle.model.specs.Calls.{dynamicBit}

@@ -1,3 +1,4 @@
+-- `dynamic_type`: the dynamic type, or 0.
 use Rattle.model.specs.Calls.{dynamicType}
 use borrow.Author.Needs.{needs}
 use Rattle.type_table.proofs.dynamic_type.Statement.{statement}

@@ -1,3 +1,4 @@
+-- `first_field`: the first field record of an attrset with so many fields, or 0.
 use borrow.Author.Tests.{eq-eqb, ne-eqb}
 use Rattle.type_table.proofs.first_field.Statement.{statement}
 use Rattle.type_table.proofs.first_field.Tie as tie

@@ -1,3 +1,4 @@
+-- `make`: makes an entry that has no z and no flags.
 use native.Mathlib.Omega.{arith}
 use denote.Ref.{now}
 use Rattle.laws.proofs.Formed.{sound-table}

@@ -1,3 +1,4 @@
+-- `make_attrset`: makes an attrset with the fields of a list, triples of a name, an entry and optional.
 use Prim.Native.Nat.{_+_}
 use native.Mathlib.Omega.{arith}
 use mathlib.Core.Path.{sym}

@@ -1,3 +1,4 @@
+-- `make_neg`: makes Neg(n), or leaves every word as found.
 use native.Mathlib.Omega.{arith}
 use Rattle.image.proofs.Laying.{formed-laid, shown-laid}
 use Rattle.type_table.proofs.Answers.{negatable, full-undo, full-told, made-part, made-undo, deep-told, made-told}

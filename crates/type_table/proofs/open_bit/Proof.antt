@@ -1,3 +1,4 @@
+-- `open_bit`: the flag that says open.
 use native.Mathlib.Omega.{arith}
 use mathlib.Core.Path.{refl}
 use Rattle.type_table.proofs.open_bit.Statement.{statement}

@@ -1,3 +1,4 @@
+-- `pop_to`: takes off every entry from number old on.
 use native.Mathlib.Omega.{arith}
 use lib.ListN.{length}
 use Rattle.image.specs.Shown.{entriesOf}

@@ -1,3 +1,4 @@
+-- `put_fields`: puts the n fields of a list behind the last.
 use Prim.Native.Nat.{_-_}
 use native.Mathlib.Omega.{arith}
 use denote.Ref.{now}

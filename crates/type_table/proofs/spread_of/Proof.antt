@@ -1,3 +1,4 @@
+-- `spread_of`: how far an entry of this kind, with these words, spreads.
 use Prim.Native.Nat.{ℕ, _+_}
 use native.Mathlib.Omega.{arith}
 use mathlib.Core.Path.{sym, ap, _∙_}

@@ -1,3 +1,4 @@
+-- `undo`: undoes what making did to an image that had old entries.
 use Prim.Native.Nat.{_-_}
 use native.Mathlib.Omega.{arith}
 use mathlib.Core.Logic.{⊎-elim}
