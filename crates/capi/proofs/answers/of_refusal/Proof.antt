@@ -1,0 +1,193 @@
+use borrow.Author.Needs.{needs}
+use Rattle.capi.proofs.answers.of_refusal.Statement.{statement}
+use Rattle.capi.proofs.answers.of_refusal.Tie as tie
+use Rattle.capi.proofs.answers.of_refusal.Reads as reads
+use Rattle.capi.proofs.answers.of_refusal.Lts as lts
+use Rattle.capi.proofs.answers.four.Reads as four-reads
+use Rattle.capi.proofs.answers.none.Reads as none-reads
+use Rattle.capi.proofs.answers.one.Reads as one-reads
+
+-- src/answers.rt:84:30
+enum-told : tie.Need-enum-told
+enum-told c = search needs
+
+-- src/answers.rt:84:30
+none-requires : tie.Need-none-requires
+none-requires c κs = search needs
+
+-- src/answers.rt:85:31
+enum-told-2 : tie.Need-enum-told-2
+enum-told-2 c = search needs
+
+-- src/answers.rt:85:31
+none-requires-2 : tie.Need-none-requires-2
+none-requires-2 c κs = search needs
+
+-- src/answers.rt:86:26
+enum-told-3 : tie.Need-enum-told-3
+enum-told-3 c = search needs
+
+-- src/answers.rt:86:26
+none-requires-3 : tie.Need-none-requires-3
+none-requires-3 c κs = search needs
+
+-- src/answers.rt:87:26
+enum-told-4 : tie.Need-enum-told-4
+enum-told-4 c = search needs
+
+-- src/answers.rt:87:26
+none-requires-4 : tie.Need-none-requires-4
+none-requires-4 c κs = search needs
+
+-- src/answers.rt:88:25
+enum-known-refusal : tie.Need-enum-known-refusal
+enum-known-refusal c = search needs
+
+-- src/answers.rt:88:36
+one-requires : tie.Need-one-requires
+one-requires c κs = search needs
+
+-- src/answers.rt:89:29
+enum-told-5 : tie.Need-enum-told-5
+enum-told-5 c = search needs
+
+-- src/answers.rt:89:29
+none-requires-5 : tie.Need-none-requires-5
+none-requires-5 c κs = search needs
+
+-- src/answers.rt:90:31
+enum-told-6 : tie.Need-enum-told-6
+enum-told-6 c = search needs
+
+-- src/answers.rt:90:31
+none-requires-6 : tie.Need-none-requires-6
+none-requires-6 c κs = search needs
+
+-- src/answers.rt:91:27
+enum-known-refusal-2 : tie.Need-enum-known-refusal-2
+enum-known-refusal-2 c = search needs
+
+-- src/answers.rt:91:53
+four-requires : tie.Need-four-requires
+four-requires c κs = search needs
+
+-- src/answers.rt:92:33
+enum-told-7 : tie.Need-enum-told-7
+enum-told-7 c = search needs
+
+-- src/answers.rt:92:33
+none-requires-7 : tie.Need-none-requires-7
+none-requires-7 c κs = search needs
+
+-- src/answers.rt:93:27
+enum-told-8 : tie.Need-enum-told-8
+enum-told-8 c = search needs
+
+-- src/answers.rt:93:27
+none-requires-8 : tie.Need-none-requires-8
+none-requires-8 c κs = search needs
+
+-- src/answers.rt:94:34
+enum-told-9 : tie.Need-enum-told-9
+enum-told-9 c = search needs
+
+-- src/answers.rt:94:34
+none-requires-9 : tie.Need-none-requires-9
+none-requires-9 c κs = search needs
+
+-- src/answers.rt:95:30
+enum-told-10 : tie.Need-enum-told-10
+enum-told-10 c = search needs
+
+-- src/answers.rt:95:30
+none-requires-10 : tie.Need-none-requires-10
+none-requires-10 c κs = search needs
+
+-- src/answers.rt:80:1
+returns : tie.Need-returns
+returns c = ?
+
+-- src/answers.rt:80:1
+returns-2 : tie.Need-returns-2
+returns-2 c = ?
+
+-- src/answers.rt:80:1
+returns-3 : tie.Need-returns-3
+returns-3 c = ?
+
+-- src/answers.rt:80:1
+returns-4 : tie.Need-returns-4
+returns-4 c = ?
+
+-- src/answers.rt:80:1
+returns-5 : tie.Need-returns-5
+returns-5 c = ?
+
+-- src/answers.rt:80:1
+returns-6 : tie.Need-returns-6
+returns-6 c = ?
+
+-- src/answers.rt:80:1
+returns-7 : tie.Need-returns-7
+returns-7 c = ?
+
+-- src/answers.rt:80:1
+returns-8 : tie.Need-returns-8
+returns-8 c = ?
+
+-- src/answers.rt:80:1
+returns-9 : tie.Need-returns-9
+returns-9 c = ?
+
+-- src/answers.rt:80:1
+returns-10 : tie.Need-returns-10
+returns-10 c = ?
+
+-- src/answers.rt:80:1
+returns-11 : tie.Need-returns-11
+returns-11 c = ?
+
+-- src/answers.rt:80:1
+returns-12 : tie.Need-returns-12
+returns-12 c = ?
+
+pub of-refusal-spec : {M : Type 1} → statement M
+of-refusal-spec =
+    tie.close
+    (tie.spec
+    enum-told
+    none-requires
+    enum-told-2
+    none-requires-2
+    enum-told-3
+    none-requires-3
+    enum-told-4
+    none-requires-4
+    enum-known-refusal
+    one-requires
+    enum-told-5
+    none-requires-5
+    enum-told-6
+    none-requires-6
+    enum-known-refusal-2
+    four-requires
+    enum-told-7
+    none-requires-7
+    enum-told-8
+    none-requires-8
+    enum-told-9
+    none-requires-9
+    enum-told-10
+    none-requires-10
+    returns
+    returns-2
+    returns-3
+    returns-4
+    returns-5
+    returns-6
+    returns-7
+    returns-8
+    returns-9
+    returns-10
+    returns-11
+    returns-12)
