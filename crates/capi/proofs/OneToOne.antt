@@ -65,7 +65,7 @@ values-found k n s (a ∷ b ∷ c ∷ d ∷ e ∷ []) h = refl
 values-found k n s (a ∷ b ∷ c ∷ d ∷ e ∷ f ∷ []) h = refl
 values-found k n s (a ∷ b ∷ c ∷ d ∷ e ∷ f ∷ g ∷ []) h = refl
 values-found k n s (a ∷ b ∷ c ∷ d ∷ e ∷ f ∷ g ∷ i ∷ []) h = refl
-values-found k n s (a ∷ b ∷ c ∷ d ∷ e ∷ f ∷ g ∷ i ∷ j ∷ l) h = omega arith
+values-found k n s (a ∷ b ∷ c ∷ d ∷ e ∷ f ∷ g ∷ i ∷ j ∷ l) h = absurd (omega arith)
 
 pub told-found : (steps : ℕ) (t : Told) → Fits t → told-back (answerOf steps t) ≡ t
 unfolding told-back

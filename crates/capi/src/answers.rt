@@ -11,9 +11,16 @@ use model::Made;
 use model::Record;
 use model::Refusal;
 use model::Reply;
+use names::Compared;
+use names::Counted;
+use names::Found;
+use names::Order;
+use operators::Resolved;
 ghost use mathlib.Core.Path.{_≡_};
 ghost use mathlib.Core.List.{[], _∷_};
 ghost use Rattle.model.specs.Told.{done, bit, toldRefusal, toldFailure, toldReply, toldMade, toldAnswer, toldAttrset, toldEntry, toldEntryRead, toldRecord, toldDisjointness};
+ghost use Rattle.names.specs.Answers.{toldCounted, toldOrder, toldCompared, toldFound};
+ghost use Rattle.operators.specs.Operators.{toldResolved};
 ghost use Rattle.capi.specs.Answers.{answer, answerOf};
 
 // An answer's kind.
@@ -189,10 +196,10 @@ pub fn of_entry_read(read: EntryRead) -> Answer
 }
 
 // What the read of a record answers.
-pub fn of_record(record: Record) -> Answer
-    ensures { λ r. ⌜ r ≡ answerOf 0 (toldRecord record) ⌝ }
+pub fn of_record(read: Record) -> Answer
+    ensures { λ r. ⌜ r ≡ answerOf 0 (toldRecord read) ⌝ }
 {
-    match record {
+    match read {
         Record::Entry { kind, x, y, z, flags, spread, negation } => eight(1, kind, x, y, z, flags, spread, negation),
         Record::Field { name, entry, optional } => four(DONE, 0, 0, 2, name, entry, optional),
         Record::Bound { variable, side, bound } => four(DONE, 0, 0, 3, variable, side, bound),
@@ -211,5 +218,58 @@ pub fn of_disjointness(disjointness: Disjointness) -> Answer
         Disjointness::Disjoint => one(DONE, 0, 0, 1),
         Disjointness::NotDisjoint => one(DONE, 0, 0, 0),
         Disjointness::Refused(refusal) => of_refusal(0, refusal),
+    }
+}
+
+// What the count of names answers.
+pub fn of_counted(counted: Counted) -> Answer
+    ensures { λ r. ⌜ r ≡ answerOf 0 (toldCounted counted) ⌝ }
+{
+    match counted {
+        Counted::Count(n) => one(DONE, 0, 0, n),
+        Counted::Refused(refusal) => of_refusal(0, refusal),
+    }
+}
+
+// An order: 0 before, 1 same, 2 after.
+fn of_order(order: Order) -> Answer
+    ensures { λ r. ⌜ r ≡ answerOf 0 (done (toldOrder order ∷ [])) ⌝ }
+{
+    match order {
+        Order::Before => one(DONE, 0, 0, 0),
+        Order::Same => one(DONE, 0, 0, 1),
+        Order::After => one(DONE, 0, 0, 2),
+    }
+}
+
+// What the comparison of two names answers.
+pub fn of_compared(compared: Compared) -> Answer
+    ensures { λ r. ⌜ r ≡ answerOf 0 (toldCompared compared) ⌝ }
+{
+    match compared {
+        Compared::Order(order) => of_order(order),
+        Compared::Refused(refusal) => of_refusal(0, refusal),
+    }
+}
+
+// What the search for a name answers.
+pub fn of_found(found: Found) -> Answer
+    ensures { λ r. ⌜ r ≡ answerOf 0 (toldFound found) ⌝ }
+{
+    match found {
+        Found::At(n) => one(DONE, 0, 0, n),
+        Found::Absent => none(DONE, 0, 0),
+        Found::Refused(refusal) => of_refusal(0, refusal),
+    }
+}
+
+// What an operator call answers.
+pub fn of_resolved(resolved: Resolved) -> Answer
+    ensures { λ r. ⌜ r ≡ answerOf 0 (toldResolved resolved) ⌝ }
+{
+    match resolved {
+        Resolved::Primitive(p) => one(DONE, 0, 0, p),
+        Resolved::None => none(DONE, 0, 0),
+        Resolved::Refused(refusal) => of_refusal(0, refusal),
     }
 }

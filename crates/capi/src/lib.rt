@@ -8,6 +8,8 @@ ghost use mathlib.Core.Path.{_≡_};
 ghost use Rattle.model.specs.Formed.{wellFormed};
 ghost use Rattle.model.specs.Calls.{perform, makesVariable, makesPrimitive, makesList, makesLambda, makesAttrset, makesNamed, makesNeg, makesInter, makesUnion, marks, putsBound, enters, exits, setsLevel, asks, asksEqual, works, abandons, readsEntry, readsRecord, readsDisjoint};
 ghost use Rattle.model.specs.Calls.{start as startOf};
+ghost use Rattle.names.specs.Names.{checkNames, checkName, countNames, compareAt, findName};
+ghost use Rattle.operators.specs.Operators.{toldResolved, resolved, fromLeft, atOnce};
 ghost use Rattle.capi.specs.Answers.{answerOf, flagOf, dynamicOf, capacitiesOf};
 
 // An answer: its kind, 01's number of a refusal or a failure, the steps of this call, and so many values.
@@ -128,8 +130,8 @@ pub extern "C" fn sheafwinch_make_lambda(image: &mut [u32], param: u32, body: u3
 // Makes an attrset with the fields of a list.
 #[no_mangle]
 pub extern "C" fn sheafwinch_make_attrset(image: &mut [u32], fields: &[u32], is_open: u32, has_dynamic: u32, dynamic: u32) -> Answer
-    ensures { λ r. ⌜ r ≡ answerOf 0 (perform (makesAttrset (now (fields .entry)) (flagOf is_open) (dynamicOf has_dynamic dynamic)) (now (image .entry)) .says) ⌝ }
-    ensures { λ _. ⌜ now (image .exit) ≡ perform (makesAttrset (now (fields .entry)) (flagOf is_open) (dynamicOf has_dynamic dynamic)) (now (image .entry)) .words ⌝ }
+    ensures { λ r. ⌜ r ≡ answerOf 0 (perform (makesAttrset (now (fields .entry)) (flagOf is_open) (dynamicOf «has_dynamic» dynamic)) (now (image .entry)) .says) ⌝ }
+    ensures { λ _. ⌜ now (image .exit) ≡ perform (makesAttrset (now (fields .entry)) (flagOf is_open) (dynamicOf «has_dynamic» dynamic)) (now (image .entry)) .words ⌝ }
 {
     let open_flag = flag(is_open);
     let dynamic_type = dynamic_of(has_dynamic, dynamic);
@@ -294,4 +296,76 @@ pub extern "C" fn sheafwinch_disjoint(image: &[u32], left: u32, right: u32) -> A
 {
     let answer = sheafwinch::disjoint(image, left, right);
     answers::of_disjointness(answer)
+}
+
+// Whether the bytes are a name list.
+#[no_mangle]
+pub extern "C" fn sheafwinch_check_names(list: &[u8]) -> Answer
+    ensures { λ r. ⌜ r ≡ answerOf 0 (checkNames (now (list .entry))) ⌝ }
+{
+    let answer = names::check(list);
+    answers::of_reply(answer)
+}
+
+// Whether name n can be shown.
+#[no_mangle]
+pub extern "C" fn sheafwinch_check_name(list: &[u8], n: u32) -> Answer
+    ensures { λ r. ⌜ r ≡ answerOf 0 (checkName (now (list .entry)) n) ⌝ }
+{
+    let answer = names::check_name(list, n);
+    answers::of_reply(answer)
+}
+
+// How many names a list has.
+#[no_mangle]
+pub extern "C" fn sheafwinch_count_names(list: &[u8]) -> Answer
+    ensures { λ r. ⌜ r ≡ answerOf 0 (countNames (now (list .entry))) ⌝ }
+{
+    let answer = names::count(list);
+    answers::of_counted(answer)
+}
+
+// How two names of a list compare.
+#[no_mangle]
+pub extern "C" fn sheafwinch_compare_names(list: &[u8], left: u32, right: u32) -> Answer
+    ensures { λ r. ⌜ r ≡ answerOf 0 (compareAt (now (list .entry)) left right) ⌝ }
+{
+    let answer = names::compare(list, left, right);
+    answers::of_compared(answer)
+}
+
+// The number of the name that has the bytes.
+#[no_mangle]
+pub extern "C" fn sheafwinch_find_name(list: &[u8], bytes: &[u8]) -> Answer
+    ensures { λ r. ⌜ r ≡ answerOf 0 (findName (now (list .entry)) (now (bytes .entry))) ⌝ }
+{
+    let answer = names::find(list, bytes);
+    answers::of_found(answer)
+}
+
+// The result of an operator on two primitives.
+#[no_mangle]
+pub extern "C" fn sheafwinch_resolve(op: u32, left: u32, right: u32) -> Answer
+    ensures { λ r. ⌜ r ≡ answerOf 0 (toldResolved (resolved op left right)) ⌝ }
+{
+    let answer = operators::resolve(op, left, right);
+    answers::of_resolved(answer)
+}
+
+// What is known of the result from the left primitive alone.
+#[no_mangle]
+pub extern "C" fn sheafwinch_from_left(op: u32, left: u32) -> Answer
+    ensures { λ r. ⌜ r ≡ answerOf 0 (toldResolved (fromLeft op left)) ⌝ }
+{
+    let answer = operators::from_left(op, left);
+    answers::of_resolved(answer)
+}
+
+// What both operands are bound by at once.
+#[no_mangle]
+pub extern "C" fn sheafwinch_at_once(op: u32) -> Answer
+    ensures { λ r. ⌜ r ≡ answerOf 0 (toldResolved (atOnce op)) ⌝ }
+{
+    let answer = operators::at_once(op);
+    answers::of_resolved(answer)
 }

@@ -1,31 +1,32 @@
+-- `sheafwinch_ask`: the call, then its answer.
 use borrow.Author.Needs.{needs}
+use mathlib.Core.Path.{ap, _∙_}
+use mathlib.Core.Bool.{Bool}
+use denote.Ref.{now}
+use Rattle.model.specs.Told.{Told}
+use Rattle.model.specs.Calls.{perform, asks}
+use Rattle.capi.specs.Answers.{answerOf}
 use Rattle.capi.proofs.sheafwinch_ask.Statement.{statement}
 use Rattle.capi.proofs.sheafwinch_ask.Tie as tie
-use Rattle.capi.proofs.sheafwinch_ask.Reads as reads
-use Rattle.capi.proofs.sheafwinch_ask.Lts as lts
-use Rattle.capi.proofs.answers.of_reply.Reads as of-reply-reads
-use Rattle.capi.proofs.flag.Reads as flag-reads
-use Rattle.sheafwinch.proofs.ask.Reads as ask-reads
 
--- src/lib.rt:236:9
 flag-requires : tie.Need-flag-requires
 flag-requires c κs = search needs
 
--- src/lib.rt:237:9
 ask-requires : tie.Need-ask-requires
 ask-requires c κs = search needs
 
--- src/lib.rt:238:5
 of-reply-requires : tie.Need-of-reply-requires
 of-reply-requires c κs = search needs
 
--- src/lib.rt:231:1
 same-length : tie.Need-same-length
 same-length c = search needs
 
--- src/lib.rt:231:1
 returns : tie.Need-returns
-returns c = ?
+returns c =
+    let s = c .before .before .before .before .before .before .before in
+    let d = c .before .before .before .ask .ensures in
+    let f = c .before .before .before .before .before .flag .ensures in
+    (c .of-reply .ensures ∙ ap (λ (t : Told). answerOf 0 t) (d .0 ∙ ap (λ (h : Bool). perform (asks h (s .args .sub) (s .args .sup)) (now (s .args .image)) .says) f), d .1 ∙ ap (λ (h : Bool). perform (asks h (s .args .sub) (s .args .sup)) (now (s .args .image)) .words) f)
 
 pub sheafwinch-ask-spec : {M : Type 1} → statement M
 sheafwinch-ask-spec =

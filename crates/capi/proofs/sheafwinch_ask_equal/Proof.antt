@@ -1,31 +1,32 @@
+-- `sheafwinch_ask_equal`: the call, then its answer.
 use borrow.Author.Needs.{needs}
+use mathlib.Core.Path.{ap, _∙_}
+use mathlib.Core.Bool.{Bool}
+use denote.Ref.{now}
+use Rattle.model.specs.Told.{Told}
+use Rattle.model.specs.Calls.{perform, asksEqual}
+use Rattle.capi.specs.Answers.{answerOf}
 use Rattle.capi.proofs.sheafwinch_ask_equal.Statement.{statement}
 use Rattle.capi.proofs.sheafwinch_ask_equal.Tie as tie
-use Rattle.capi.proofs.sheafwinch_ask_equal.Reads as reads
-use Rattle.capi.proofs.sheafwinch_ask_equal.Lts as lts
-use Rattle.capi.proofs.answers.of_reply.Reads as of-reply-reads
-use Rattle.capi.proofs.flag.Reads as flag-reads
-use Rattle.sheafwinch.proofs.ask_equal.Reads as ask-equal-reads
 
--- src/lib.rt:247:9
 flag-requires : tie.Need-flag-requires
 flag-requires c κs = search needs
 
--- src/lib.rt:248:9
 ask-equal-requires : tie.Need-ask-equal-requires
 ask-equal-requires c κs = search needs
 
--- src/lib.rt:249:5
 of-reply-requires : tie.Need-of-reply-requires
 of-reply-requires c κs = search needs
 
--- src/lib.rt:242:1
 same-length : tie.Need-same-length
 same-length c = search needs
 
--- src/lib.rt:242:1
 returns : tie.Need-returns
-returns c = ?
+returns c =
+    let s = c .before .before .before .before .before .before .before in
+    let d = c .before .before .before .ask-equal .ensures in
+    let f = c .before .before .before .before .before .flag .ensures in
+    (c .of-reply .ensures ∙ ap (λ (t : Told). answerOf 0 t) (d .0 ∙ ap (λ (h : Bool). perform (asksEqual h (s .args .left) (s .args .right)) (now (s .args .image)) .says) f), d .1 ∙ ap (λ (h : Bool). perform (asksEqual h (s .args .left) (s .args .right)) (now (s .args .image)) .words) f)
 
 pub sheafwinch-ask-equal-spec : {M : Type 1} → statement M
 sheafwinch-ask-equal-spec =

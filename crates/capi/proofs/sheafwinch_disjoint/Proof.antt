@@ -1,22 +1,19 @@
+-- `sheafwinch_disjoint`: the call, then its answer.
 use borrow.Author.Needs.{needs}
+use mathlib.Core.Path.{ap, _∙_}
+use Rattle.model.specs.Told.{Told}
+use Rattle.capi.specs.Answers.{answerOf}
 use Rattle.capi.proofs.sheafwinch_disjoint.Statement.{statement}
 use Rattle.capi.proofs.sheafwinch_disjoint.Tie as tie
-use Rattle.capi.proofs.sheafwinch_disjoint.Reads as reads
-use Rattle.capi.proofs.sheafwinch_disjoint.Lts as lts
-use Rattle.capi.proofs.answers.of_disjointness.Reads as of-disjointness-reads
-use Rattle.sheafwinch.proofs.disjoint.Reads as disjoint-reads
 
--- src/lib.rt:295:9
 disjoint-requires : tie.Need-disjoint-requires
 disjoint-requires c κs = search needs
 
--- src/lib.rt:296:5
 of-disjointness-requires : tie.Need-of-disjointness-requires
 of-disjointness-requires c κs = search needs
 
--- src/lib.rt:291:1
 returns : tie.Need-returns
-returns c = ?
+returns c = c .of-disjointness .ensures ∙ ap (λ (t : Told). answerOf 0 t) (c .before .disjoint .ensures)
 
 pub sheafwinch-disjoint-spec : {M : Type 1} → statement M
 sheafwinch-disjoint-spec = tie.close (tie.spec disjoint-requires of-disjointness-requires returns)

@@ -1,26 +1,24 @@
+-- `sheafwinch_make_inter`: the call, then its answer.
 use borrow.Author.Needs.{needs}
+use mathlib.Core.Path.{ap, _∙_}
+use Rattle.model.specs.Told.{Told}
+use Rattle.capi.specs.Answers.{answerOf}
 use Rattle.capi.proofs.sheafwinch_make_inter.Statement.{statement}
 use Rattle.capi.proofs.sheafwinch_make_inter.Tie as tie
-use Rattle.capi.proofs.sheafwinch_make_inter.Reads as reads
-use Rattle.capi.proofs.sheafwinch_make_inter.Lts as lts
-use Rattle.capi.proofs.answers.of_made.Reads as of-made-reads
-use Rattle.sheafwinch.proofs.make_inter.Reads as make-inter-reads
 
--- src/lib.rt:166:9
 make-inter-requires : tie.Need-make-inter-requires
 make-inter-requires c κs = search needs
 
--- src/lib.rt:167:5
 of-made-requires : tie.Need-of-made-requires
 of-made-requires c κs = search needs
 
--- src/lib.rt:161:1
 same-length : tie.Need-same-length
 same-length c = search needs
 
--- src/lib.rt:161:1
 returns : tie.Need-returns
-returns c = ?
+returns c =
+    let d = c .before .before .before .make-inter .ensures in
+    (c .of-made .ensures ∙ ap (λ (t : Told). answerOf 0 t) (d .0), d .1)
 
 pub sheafwinch-make-inter-spec : {M : Type 1} → statement M
 sheafwinch-make-inter-spec =

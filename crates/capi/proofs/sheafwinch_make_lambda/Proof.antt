@@ -1,26 +1,24 @@
+-- `sheafwinch_make_lambda`: the call, then its answer.
 use borrow.Author.Needs.{needs}
+use mathlib.Core.Path.{ap, _∙_}
+use Rattle.model.specs.Told.{Told}
+use Rattle.capi.specs.Answers.{answerOf}
 use Rattle.capi.proofs.sheafwinch_make_lambda.Statement.{statement}
 use Rattle.capi.proofs.sheafwinch_make_lambda.Tie as tie
-use Rattle.capi.proofs.sheafwinch_make_lambda.Reads as reads
-use Rattle.capi.proofs.sheafwinch_make_lambda.Lts as lts
-use Rattle.capi.proofs.answers.of_made.Reads as of-made-reads
-use Rattle.sheafwinch.proofs.make_lambda.Reads as make-lambda-reads
 
--- src/lib.rt:124:9
 make-lambda-requires : tie.Need-make-lambda-requires
 make-lambda-requires c κs = search needs
 
--- src/lib.rt:125:5
 of-made-requires : tie.Need-of-made-requires
 of-made-requires c κs = search needs
 
--- src/lib.rt:119:1
 same-length : tie.Need-same-length
 same-length c = search needs
 
--- src/lib.rt:119:1
 returns : tie.Need-returns
-returns c = ?
+returns c =
+    let d = c .before .before .before .make-lambda .ensures in
+    (c .of-made .ensures ∙ ap (λ (t : Told). answerOf 0 t) (d .0), d .1)
 
 pub sheafwinch-make-lambda-spec : {M : Type 1} → statement M
 sheafwinch-make-lambda-spec =

@@ -1,26 +1,24 @@
+-- `sheafwinch_make_list`: the call, then its answer.
 use borrow.Author.Needs.{needs}
+use mathlib.Core.Path.{ap, _∙_}
+use Rattle.model.specs.Told.{Told}
+use Rattle.capi.specs.Answers.{answerOf}
 use Rattle.capi.proofs.sheafwinch_make_list.Statement.{statement}
 use Rattle.capi.proofs.sheafwinch_make_list.Tie as tie
-use Rattle.capi.proofs.sheafwinch_make_list.Reads as reads
-use Rattle.capi.proofs.sheafwinch_make_list.Lts as lts
-use Rattle.capi.proofs.answers.of_made.Reads as of-made-reads
-use Rattle.sheafwinch.proofs.make_list.Reads as make-list-reads
 
--- src/lib.rt:114:9
 make-list-requires : tie.Need-make-list-requires
 make-list-requires c κs = search needs
 
--- src/lib.rt:115:5
 of-made-requires : tie.Need-of-made-requires
 of-made-requires c κs = search needs
 
--- src/lib.rt:109:1
 same-length : tie.Need-same-length
 same-length c = search needs
 
--- src/lib.rt:109:1
 returns : tie.Need-returns
-returns c = ?
+returns c =
+    let d = c .before .before .before .make-list .ensures in
+    (c .of-made .ensures ∙ ap (λ (t : Told). answerOf 0 t) (d .0), d .1)
 
 pub sheafwinch-make-list-spec : {M : Type 1} → statement M
 sheafwinch-make-list-spec =

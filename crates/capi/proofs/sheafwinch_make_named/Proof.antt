@@ -1,26 +1,24 @@
+-- `sheafwinch_make_named`: the call, then its answer.
 use borrow.Author.Needs.{needs}
+use mathlib.Core.Path.{ap, _∙_}
+use Rattle.model.specs.Told.{Told}
+use Rattle.capi.specs.Answers.{answerOf}
 use Rattle.capi.proofs.sheafwinch_make_named.Statement.{statement}
 use Rattle.capi.proofs.sheafwinch_make_named.Tie as tie
-use Rattle.capi.proofs.sheafwinch_make_named.Reads as reads
-use Rattle.capi.proofs.sheafwinch_make_named.Lts as lts
-use Rattle.capi.proofs.answers.of_made.Reads as of-made-reads
-use Rattle.sheafwinch.proofs.make_named.Reads as make-named-reads
 
--- src/lib.rt:146:9
 make-named-requires : tie.Need-make-named-requires
 make-named-requires c κs = search needs
 
--- src/lib.rt:147:5
 of-made-requires : tie.Need-of-made-requires
 of-made-requires c κs = search needs
 
--- src/lib.rt:141:1
 same-length : tie.Need-same-length
 same-length c = search needs
 
--- src/lib.rt:141:1
 returns : tie.Need-returns
-returns c = ?
+returns c =
+    let d = c .before .before .before .make-named .ensures in
+    (c .of-made .ensures ∙ ap (λ (t : Told). answerOf 0 t) (d .0), d .1)
 
 pub sheafwinch-make-named-spec : {M : Type 1} → statement M
 sheafwinch-make-named-spec =

@@ -1,26 +1,24 @@
+-- `sheafwinch_make_union`: the call, then its answer.
 use borrow.Author.Needs.{needs}
+use mathlib.Core.Path.{ap, _∙_}
+use Rattle.model.specs.Told.{Told}
+use Rattle.capi.specs.Answers.{answerOf}
 use Rattle.capi.proofs.sheafwinch_make_union.Statement.{statement}
 use Rattle.capi.proofs.sheafwinch_make_union.Tie as tie
-use Rattle.capi.proofs.sheafwinch_make_union.Reads as reads
-use Rattle.capi.proofs.sheafwinch_make_union.Lts as lts
-use Rattle.capi.proofs.answers.of_made.Reads as of-made-reads
-use Rattle.sheafwinch.proofs.make_union.Reads as make-union-reads
 
--- src/lib.rt:176:9
 make-union-requires : tie.Need-make-union-requires
 make-union-requires c κs = search needs
 
--- src/lib.rt:177:5
 of-made-requires : tie.Need-of-made-requires
 of-made-requires c κs = search needs
 
--- src/lib.rt:171:1
 same-length : tie.Need-same-length
 same-length c = search needs
 
--- src/lib.rt:171:1
 returns : tie.Need-returns
-returns c = ?
+returns c =
+    let d = c .before .before .before .make-union .ensures in
+    (c .of-made .ensures ∙ ap (λ (t : Told). answerOf 0 t) (d .0), d .1)
 
 pub sheafwinch-make-union-spec : {M : Type 1} → statement M
 sheafwinch-make-union-spec =

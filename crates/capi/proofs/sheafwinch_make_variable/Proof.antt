@@ -1,26 +1,24 @@
+-- `sheafwinch_make_variable`: the call, then its answer.
 use borrow.Author.Needs.{needs}
+use mathlib.Core.Path.{ap, _∙_}
+use Rattle.model.specs.Told.{Told}
+use Rattle.capi.specs.Answers.{answerOf}
 use Rattle.capi.proofs.sheafwinch_make_variable.Statement.{statement}
 use Rattle.capi.proofs.sheafwinch_make_variable.Tie as tie
-use Rattle.capi.proofs.sheafwinch_make_variable.Reads as reads
-use Rattle.capi.proofs.sheafwinch_make_variable.Lts as lts
-use Rattle.capi.proofs.answers.of_made.Reads as of-made-reads
-use Rattle.sheafwinch.proofs.make_variable.Reads as make-variable-reads
 
--- src/lib.rt:94:9
 make-variable-requires : tie.Need-make-variable-requires
 make-variable-requires c κs = search needs
 
--- src/lib.rt:95:5
 of-made-requires : tie.Need-of-made-requires
 of-made-requires c κs = search needs
 
--- src/lib.rt:89:1
 same-length : tie.Need-same-length
 same-length c = search needs
 
--- src/lib.rt:89:1
 returns : tie.Need-returns
-returns c = ?
+returns c =
+    let d = c .before .before .before .make-variable .ensures in
+    (c .of-made .ensures ∙ ap (λ (t : Told). answerOf 0 t) (d .0), d .1)
 
 pub sheafwinch-make-variable-spec : {M : Type 1} → statement M
 sheafwinch-make-variable-spec =

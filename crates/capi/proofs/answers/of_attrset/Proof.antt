@@ -1,38 +1,33 @@
+-- `of_attrset`: with or without a dynamic type.
 use borrow.Author.Needs.{needs}
+use Rattle.capi.proofs.Settled.{without, within}
 use Rattle.capi.proofs.answers.of_attrset.Statement.{statement}
 use Rattle.capi.proofs.answers.of_attrset.Tie as tie
-use Rattle.capi.proofs.answers.of_attrset.Reads as reads
-use Rattle.capi.proofs.answers.of_attrset.Lts as lts
-use Rattle.capi.proofs.answers.bit_of.Reads as bit-of-reads
-use Rattle.capi.proofs.answers.six.Reads as six-reads
 
--- src/answers.rt:156:9
 bit-of-requires : tie.Need-bit-of-requires
 bit-of-requires c κs = search needs
 
--- src/answers.rt:159:28
 enum-told : tie.Need-enum-told
 enum-told c = search needs
 
--- src/answers.rt:159:28
 six-requires : tie.Need-six-requires
 six-requires c κs = search needs
 
--- src/answers.rt:160:26
 enum-known-dynamic : tie.Need-enum-known-dynamic
 enum-known-dynamic c = search needs
 
--- src/answers.rt:160:32
 six-requires-2 : tie.Need-six-requires-2
 six-requires-2 c κs = search needs
 
--- src/answers.rt:151:1
 returns : tie.Need-returns
-returns c = ?
+returns c =
+    let s = c .before .before .before .before in
+    without _ (s .args .a .first) (s .args .a .count) _ _ _ (c .six .ensures) (c .before .before .before .bit-of .ensures) (c .before .enum-told .given .1)
 
--- src/answers.rt:151:1
 returns-2 : tie.Need-returns-2
-returns-2 c = ?
+returns-2 c =
+    let s = c .before .before .before .before .before in
+    within _ (s .args .a .first) (s .args .a .count) _ _ _ _ (c .six2 .ensures) (c .before .before .before .before .bit-of .ensures) (c .before .before .dynamic .given .1)
 
 pub of-attrset-spec : {M : Type 1} → statement M
 of-attrset-spec =

@@ -1,34 +1,29 @@
+-- `of_made`: a make's answer, case by case.
 use borrow.Author.Needs.{needs}
+use mathlib.Core.Path.{sym, ap, _∙_}
+use Rattle.model.specs.Told.{toldMade}
+use Rattle.model.specs.declared.Made.{Made}
+use Rattle.capi.specs.Answers.{answerOf}
 use Rattle.capi.proofs.answers.of_made.Statement.{statement}
 use Rattle.capi.proofs.answers.of_made.Tie as tie
-use Rattle.capi.proofs.answers.of_made.Reads as reads
-use Rattle.capi.proofs.answers.of_made.Lts as lts
-use Rattle.capi.proofs.answers.of_refusal.Reads as of-refusal-reads
-use Rattle.capi.proofs.answers.one.Reads as one-reads
 
--- src/answers.rt:124:22
 enum-known-made : tie.Need-enum-known-made
 enum-known-made c = search needs
 
--- src/answers.rt:124:28
 one-requires : tie.Need-one-requires
 one-requires c κs = search needs
 
--- src/answers.rt:125:23
 enum-known-made-2 : tie.Need-enum-known-made-2
 enum-known-made-2 c = search needs
 
--- src/answers.rt:125:35
 of-refusal-requires : tie.Need-of-refusal-requires
 of-refusal-requires c κs = search needs
 
--- src/answers.rt:120:1
 returns : tie.Need-returns
-returns c = ?
+returns c = c .one .ensures ∙ sym (ap (λ (x : Made). answerOf 0 (toldMade x)) (c .before .before .made .given .1))
 
--- src/answers.rt:120:1
 returns-2 : tie.Need-returns-2
-returns-2 c = ?
+returns-2 c = c .of-refusal .ensures ∙ sym (ap (λ (x : Made). answerOf 0 (toldMade x)) (c .before .before .made2 .given .1))
 
 pub of-made-spec : {M : Type 1} → statement M
 of-made-spec =

@@ -1,155 +1,119 @@
+-- `of_refusal`: a refusal, case by case.
 use borrow.Author.Needs.{needs}
+use mathlib.Core.Path.{sym, ap, _∙_}
+use Rattle.model.specs.Told.{toldRefusal}
+use Rattle.model.specs.declared.Refusal.{Refusal}
+use Rattle.capi.specs.Answers.{answerOf}
 use Rattle.capi.proofs.answers.of_refusal.Statement.{statement}
 use Rattle.capi.proofs.answers.of_refusal.Tie as tie
-use Rattle.capi.proofs.answers.of_refusal.Reads as reads
-use Rattle.capi.proofs.answers.of_refusal.Lts as lts
-use Rattle.capi.proofs.answers.four.Reads as four-reads
-use Rattle.capi.proofs.answers.none.Reads as none-reads
-use Rattle.capi.proofs.answers.one.Reads as one-reads
 
--- src/answers.rt:84:30
 enum-told : tie.Need-enum-told
 enum-told c = search needs
 
--- src/answers.rt:84:30
 none-requires : tie.Need-none-requires
 none-requires c κs = search needs
 
--- src/answers.rt:85:31
 enum-told-2 : tie.Need-enum-told-2
 enum-told-2 c = search needs
 
--- src/answers.rt:85:31
 none-requires-2 : tie.Need-none-requires-2
 none-requires-2 c κs = search needs
 
--- src/answers.rt:86:26
 enum-told-3 : tie.Need-enum-told-3
 enum-told-3 c = search needs
 
--- src/answers.rt:86:26
 none-requires-3 : tie.Need-none-requires-3
 none-requires-3 c κs = search needs
 
--- src/answers.rt:87:26
 enum-told-4 : tie.Need-enum-told-4
 enum-told-4 c = search needs
 
--- src/answers.rt:87:26
 none-requires-4 : tie.Need-none-requires-4
 none-requires-4 c κs = search needs
 
--- src/answers.rt:88:25
 enum-known-refusal : tie.Need-enum-known-refusal
 enum-known-refusal c = search needs
 
--- src/answers.rt:88:36
 one-requires : tie.Need-one-requires
 one-requires c κs = search needs
 
--- src/answers.rt:89:29
 enum-told-5 : tie.Need-enum-told-5
 enum-told-5 c = search needs
 
--- src/answers.rt:89:29
 none-requires-5 : tie.Need-none-requires-5
 none-requires-5 c κs = search needs
 
--- src/answers.rt:90:31
 enum-told-6 : tie.Need-enum-told-6
 enum-told-6 c = search needs
 
--- src/answers.rt:90:31
 none-requires-6 : tie.Need-none-requires-6
 none-requires-6 c κs = search needs
 
--- src/answers.rt:91:27
 enum-known-refusal-2 : tie.Need-enum-known-refusal-2
 enum-known-refusal-2 c = search needs
 
--- src/answers.rt:91:53
 four-requires : tie.Need-four-requires
 four-requires c κs = search needs
 
--- src/answers.rt:92:33
 enum-told-7 : tie.Need-enum-told-7
 enum-told-7 c = search needs
 
--- src/answers.rt:92:33
 none-requires-7 : tie.Need-none-requires-7
 none-requires-7 c κs = search needs
 
--- src/answers.rt:93:27
 enum-told-8 : tie.Need-enum-told-8
 enum-told-8 c = search needs
 
--- src/answers.rt:93:27
 none-requires-8 : tie.Need-none-requires-8
 none-requires-8 c κs = search needs
 
--- src/answers.rt:94:34
 enum-told-9 : tie.Need-enum-told-9
 enum-told-9 c = search needs
 
--- src/answers.rt:94:34
 none-requires-9 : tie.Need-none-requires-9
 none-requires-9 c κs = search needs
 
--- src/answers.rt:95:30
 enum-told-10 : tie.Need-enum-told-10
 enum-told-10 c = search needs
 
--- src/answers.rt:95:30
 none-requires-10 : tie.Need-none-requires-10
 none-requires-10 c κs = search needs
 
--- src/answers.rt:80:1
 returns : tie.Need-returns
-returns c = ?
+returns c = c .none .ensures ∙ sym (ap (λ (x : Refusal). answerOf (c .before .before .before .args .steps) (toldRefusal x)) (c .before .enum-told .given .1))
 
--- src/answers.rt:80:1
 returns-2 : tie.Need-returns-2
-returns-2 c = ?
+returns-2 c = c .none2 .ensures ∙ sym (ap (λ (x : Refusal). answerOf (c .before .before .before .args .steps) (toldRefusal x)) (c .before .enum-told2 .given .1))
 
--- src/answers.rt:80:1
 returns-3 : tie.Need-returns-3
-returns-3 c = ?
+returns-3 c = c .none3 .ensures ∙ sym (ap (λ (x : Refusal). answerOf (c .before .before .before .args .steps) (toldRefusal x)) (c .before .enum-told3 .given .1))
 
--- src/answers.rt:80:1
 returns-4 : tie.Need-returns-4
-returns-4 c = ?
+returns-4 c = c .none4 .ensures ∙ sym (ap (λ (x : Refusal). answerOf (c .before .before .before .args .steps) (toldRefusal x)) (c .before .enum-told4 .given .1))
 
--- src/answers.rt:80:1
 returns-5 : tie.Need-returns-5
-returns-5 c = ?
+returns-5 c = c .one .ensures ∙ sym (ap (λ (x : Refusal). answerOf (c .before .before .before .before .args .steps) (toldRefusal x)) (c .before .before .refusal .given .1))
 
--- src/answers.rt:80:1
 returns-6 : tie.Need-returns-6
-returns-6 c = ?
+returns-6 c = c .none5 .ensures ∙ sym (ap (λ (x : Refusal). answerOf (c .before .before .before .args .steps) (toldRefusal x)) (c .before .enum-told5 .given .1))
 
--- src/answers.rt:80:1
 returns-7 : tie.Need-returns-7
-returns-7 c = ?
+returns-7 c = c .none6 .ensures ∙ sym (ap (λ (x : Refusal). answerOf (c .before .before .before .args .steps) (toldRefusal x)) (c .before .enum-told6 .given .1))
 
--- src/answers.rt:80:1
 returns-8 : tie.Need-returns-8
-returns-8 c = ?
+returns-8 c = c .four .ensures ∙ sym (ap (λ (x : Refusal). answerOf (c .before .before .before .before .args .steps) (toldRefusal x)) (c .before .before .refusal2 .given .1))
 
--- src/answers.rt:80:1
 returns-9 : tie.Need-returns-9
-returns-9 c = ?
+returns-9 c = c .none7 .ensures ∙ sym (ap (λ (x : Refusal). answerOf (c .before .before .before .args .steps) (toldRefusal x)) (c .before .enum-told7 .given .1))
 
--- src/answers.rt:80:1
 returns-10 : tie.Need-returns-10
-returns-10 c = ?
+returns-10 c = c .none8 .ensures ∙ sym (ap (λ (x : Refusal). answerOf (c .before .before .before .args .steps) (toldRefusal x)) (c .before .enum-told8 .given .1))
 
--- src/answers.rt:80:1
 returns-11 : tie.Need-returns-11
-returns-11 c = ?
+returns-11 c = c .none9 .ensures ∙ sym (ap (λ (x : Refusal). answerOf (c .before .before .before .args .steps) (toldRefusal x)) (c .before .enum-told9 .given .1))
 
--- src/answers.rt:80:1
 returns-12 : tie.Need-returns-12
-returns-12 c = ?
+returns-12 c = c .none10 .ensures ∙ sym (ap (λ (x : Refusal). answerOf (c .before .before .before .args .steps) (toldRefusal x)) (c .before .enum-told10 .given .1))
 
 pub of-refusal-spec : {M : Type 1} → statement M
 of-refusal-spec =
