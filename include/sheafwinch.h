@@ -1,13 +1,15 @@
-/* Sheafwinch for C (C11, also C++). Every call is proved to be the call that it wraps: it ends, on any words and any arguments,
- * reads and writes nothing but the words that it is lent, and answers as said here.
+/* Sheafwinch for C (C11, also C++): libsheafwinch.a and libsheafwinch.so, x86-64 Linux. Every call is proved to be the call that it
+ * wraps (crates/capi): it ends, on any words and any arguments, reads and writes nothing but what it is lent, and answers as said
+ * here. The library needs nothing but memset, which a C library has.
  *
  * Who owns what. The caller owns everything. An image is an array of uint32_t that the caller lends for the time of a call, as a
  * pointer and a count of words (not bytes); the library keeps no pointer, allocates nothing, and has no state of its own. Copying
  * the words copies the image; they may be stored and loaded again on any machine that has the same byte order. A call on words that
  * are no image is refused with SHEAFWINCH_BAD_TABLE, so stored words need no other test.
  *
- * Pointers. A pointer may be NULL only with count 0. It must be aligned as uint32_t is. Words that a call may change (no const)
- * must overlap nothing else that is lent in the same call.
+ * Pointers. A pointer may be NULL only with count 0. It must be aligned for what it points to, and all of the count must be there to read
+ * (or, where there is no const, to write). Words that a call may change must overlap nothing else that is lent in the same call.
+ * These rules are the caller's: no call can test them.
  *
  * Threads. Calls on different images may run at the same time. Calls on one image may run at the same time only where all of them
  * take it const (check and the reads).
@@ -115,6 +117,14 @@ enum {
     SHEAFWINCH_NUMBER = 7
 };
 
+/* Operators. */
+enum {
+    SHEAFWINCH_ADD = 0,
+    SHEAFWINCH_SUB = 1,
+    SHEAFWINCH_MUL = 2,
+    SHEAFWINCH_DIV = 3
+};
+
 /* Sides of a variable. */
 enum {
     SHEAFWINCH_LOWER = 0,
@@ -210,6 +220,30 @@ sheafwinch_answer sheafwinch_entry(const uint32_t *image, size_t words, uint32_t
 sheafwinch_answer sheafwinch_record(const uint32_t *image, size_t words, uint32_t region, uint32_t n);
 /* Whether two entries share no value: 1 where they share none, else 0. Refusals: 1, 2. */
 sheafwinch_answer sheafwinch_disjoint(const uint32_t *image, size_t words, uint32_t left, uint32_t right);
+
+/* The name calls. A name list is bytes that the caller lends: count (16 bits, little endian), count+1 offsets (the same) into the
+ * name bytes, then these. The first offset is 0, none falls, the last is the number of bytes left; at most 4,096 names, each 0 to 255
+ * bytes, strictly ascending by unsigned bytes, a proper prefix first. A name's number is its place in the list. */
+
+/* Whether the bytes are a name list. Refusals: 12. */
+sheafwinch_answer sheafwinch_check_names(const uint8_t *list, size_t bytes);
+/* Whether they are, and have a name n. Refusals: 12, 2. */
+sheafwinch_answer sheafwinch_check_name(const uint8_t *list, size_t bytes, uint32_t n);
+/* One value: how many names there are. Refusals: 12. */
+sheafwinch_answer sheafwinch_count_names(const uint8_t *list, size_t bytes);
+/* One value: 0 where the left name is before the right one, 1 where they are the same, 2 where it is after. Refusals: 12, 2. */
+sheafwinch_answer sheafwinch_compare_names(const uint8_t *list, size_t bytes, uint32_t left, uint32_t right);
+/* One value, the number of the name that has these bytes; none where no name has them. Refusals: 12. */
+sheafwinch_answer sheafwinch_find_name(const uint8_t *list, size_t bytes, const uint8_t *name, size_t name_bytes);
+
+/* The operators, 0 to 3, on primitives. One value, a primitive; none where nothing is known. Refusals: 2. */
+
+/* The result of an operator on two primitives. */
+sheafwinch_answer sheafwinch_resolve(uint32_t op, uint32_t left, uint32_t right);
+/* The result as far as the left primitive alone settles it. */
+sheafwinch_answer sheafwinch_from_left(uint32_t op, uint32_t left);
+/* The primitive that bounds operands and result at once. */
+sheafwinch_answer sheafwinch_at_once(uint32_t op);
 
 #ifdef __cplusplus
 }

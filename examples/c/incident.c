@@ -1,5 +1,5 @@
 /* The bench table made from C, and its question B3 worked in instalments: does Number fit under Number-or-Int, in the order in
- * which the rules take the union's members. Prints every answer. */
+ * which the rules take the union's members; then one of every other call. Prints every answer. */
 #include <stdio.h>
 #include "sheafwinch.h"
 
@@ -87,5 +87,20 @@ int main(void)
     print("record 0 of visited", sheafwinch_record(image, WORDS, SHEAFWINCH_VISITED, 0));
     print("disjoint 0 3", sheafwinch_disjoint(image, WORDS, 0, 3));
     print("disjoint 0 1", sheafwinch_disjoint(image, WORDS, 0, 1));
+
+    /* __functor, x, y */
+    static const uint8_t names[] = {3, 0, 0, 0, 9, 0, 10, 0, 11, 0, '_', '_', 'f', 'u', 'n', 'c', 't', 'o', 'r', 'x', 'y'};
+    print("check names", sheafwinch_check_names(names, sizeof names));
+    print("check names, a byte short", sheafwinch_check_names(names, sizeof names - 1));
+    print("check name 3", sheafwinch_check_name(names, sizeof names, 3));
+    print("count names", sheafwinch_count_names(names, sizeof names));
+    print("compare 1 2", sheafwinch_compare_names(names, sizeof names, 1, 2));
+    print("find y", sheafwinch_find_name(names, sizeof names, (const uint8_t *)"y", 1));
+    print("find z", sheafwinch_find_name(names, sizeof names, (const uint8_t *)"z", 1));
+    print("Int + Float", sheafwinch_resolve(SHEAFWINCH_ADD, SHEAFWINCH_INT, SHEAFWINCH_FLOAT));
+    print("Int - String", sheafwinch_resolve(SHEAFWINCH_SUB, SHEAFWINCH_INT, SHEAFWINCH_STRING));
+    print("String +", sheafwinch_from_left(SHEAFWINCH_ADD, SHEAFWINCH_STRING));
+    print("/ at once", sheafwinch_at_once(SHEAFWINCH_DIV));
+    print("operator 4", sheafwinch_at_once(4));
     return 0;
 }

@@ -28,6 +28,16 @@ use Rattle.model.specs.declared.Record.{Record}
 use Rattle.model.specs.declared.Record.the-variants as RR
 use Rattle.model.specs.declared.Disjointness.{Disjointness}
 use Rattle.model.specs.declared.Disjointness.the-variants as J
+use Rattle.names.specs.Answers.{toldCounted, toldCompared, toldFound}
+use Rattle.names.specs.declared.Counted.{Counted}
+use Rattle.names.specs.declared.Counted.the-variants as C
+use Rattle.names.specs.declared.Compared.{Compared}
+use Rattle.names.specs.declared.Compared.the-variants as P
+use Rattle.names.specs.declared.Found.{Found}
+use Rattle.names.specs.declared.Found.the-variants as N
+use Rattle.operators.specs.Operators.{toldResolved}
+use Rattle.operators.specs.declared.Resolved.{Resolved}
+use Rattle.operators.specs.declared.Resolved.the-variants as O
 use Rattle.capi.specs.Answers.{answer, answerOf}
 use Rattle.capi.specs.declared.Answer.{Answer}
 
@@ -155,3 +165,21 @@ pub disjointness-fits : (r : Disjointness) → Fits (toldDisjointness r)
 disjointness-fits J.Disjoint = omega arith
 disjointness-fits J.NotDisjoint = omega arith
 disjointness-fits (J.Refused r) = refusal-fits r
+
+pub counted-fits : (r : Counted) → Fits (toldCounted r)
+counted-fits (C.Count n) = omega arith
+counted-fits (C.Refused r) = refusal-fits r
+
+pub compared-fits : (r : Compared) → Fits (toldCompared r)
+compared-fits (P.Order o) = omega arith
+compared-fits (P.Refused r) = refusal-fits r
+
+pub found-fits : (r : Found) → Fits (toldFound r)
+found-fits (N.At n) = omega arith
+found-fits N.Absent = omega arith
+found-fits (N.Refused r) = refusal-fits r
+
+pub resolved-fits : (r : Resolved) → Fits (toldResolved r)
+resolved-fits (O.Primitive p) = omega arith
+resolved-fits O.None = omega arith
+resolved-fits (O.Refused r) = refusal-fits r
