@@ -63,7 +63,7 @@ fn three(kind: u32, number: u32, steps: u32, v0: u32, v1: u32, v2: u32) -> Answe
 }
 
 // Two.
-fn two(kind: u32, number: u32, steps: u32, v0: u32, v1: u32) -> Answer
+pub fn two(kind: u32, number: u32, steps: u32, v0: u32, v1: u32) -> Answer
     ensures { λ r. ⌜ r ≡ answer kind number steps (v0 ∷ v1 ∷ []) ⌝ }
 {
     Answer { kind: kind, number: number, steps: steps, count: 2, v0: v0, v1: v1, v2: 0, v3: 0, v4: 0, v5: 0, v6: 0, v7: 0 }
@@ -84,7 +84,7 @@ fn none(kind: u32, number: u32, steps: u32) -> Answer
 }
 
 // A refusal, after so many steps.
-fn of_refusal(steps: u32, refusal: Refusal) -> Answer
+pub fn of_refusal(steps: u32, refusal: Refusal) -> Answer
     ensures { λ r. ⌜ r ≡ answerOf steps (toldRefusal refusal) ⌝ }
 {
     match refusal {

@@ -2,15 +2,17 @@
 // Each is the call that it wraps: its answer is `answerOf` of what the model's call says, its words are the model's.
 // include/sheafwinch.h tells a C programmer the same.
 mod answers;
+mod places;
 
 use model::Dynamic;
+use model::Reply;
 ghost use mathlib.Core.Path.{_≡_};
 ghost use Rattle.model.specs.Formed.{wellFormed};
 ghost use Rattle.model.specs.Calls.{perform, makesVariable, makesPrimitive, makesList, makesLambda, makesAttrset, makesNamed, makesNeg, makesInter, makesUnion, marks, putsBound, enters, exits, setsLevel, asks, asksEqual, works, abandons, readsEntry, readsRecord, readsDisjoint};
 ghost use Rattle.model.specs.Calls.{start as startOf};
 ghost use Rattle.names.specs.Names.{checkNames, checkName, countNames, compareAt, findName};
 ghost use Rattle.operators.specs.Operators.{toldResolved, resolved, fromLeft, atOnce};
-ghost use Rattle.capi.specs.Answers.{answerOf, flagOf, dynamicOf, capacitiesOf};
+ghost use Rattle.capi.specs.Answers.{answerOf, flagOf, dynamicOf, capacitiesOf, placeOf};
 
 // An answer: its kind, 01's number of a refusal or a failure, the steps of this call, and so many values.
 #[repr(C)]
@@ -323,6 +325,18 @@ pub extern "C" fn sheafwinch_count_names(list: &[u8]) -> Answer
 {
     let answer = names::count(list);
     answers::of_counted(answer)
+}
+
+// Where in the list name n starts, and how many bytes it has.
+#[no_mangle]
+pub extern "C" fn sheafwinch_show_name(list: &[u8], n: u32) -> Answer
+    ensures { λ r. ⌜ r ≡ answerOf 0 (placeOf (now (list .entry)) n) ⌝ }
+{
+    let checked = names::check_name(list, n);
+    match checked {
+        Reply::Done => places::place(list, n),
+        Reply::Refused(refusal) => answers::of_refusal(0, refusal),
+    }
 }
 
 // How two names of a list compare.
