@@ -231,6 +231,8 @@ sheafwinch_answer sheafwinch_check_names(const uint8_t *list, size_t bytes);
 sheafwinch_answer sheafwinch_check_name(const uint8_t *list, size_t bytes, uint32_t n);
 /* One value: how many names there are. Refusals: 12. */
 sheafwinch_answer sheafwinch_count_names(const uint8_t *list, size_t bytes);
+/* Two values: where in the list the bytes of name n start, and how many they are. Refusals: 12, 2. */
+sheafwinch_answer sheafwinch_show_name(const uint8_t *list, size_t bytes, uint32_t n);
 /* One value: 0 where the left name is before the right one, 1 where they are the same, 2 where it is after. Refusals: 12, 2. */
 sheafwinch_answer sheafwinch_compare_names(const uint8_t *list, size_t bytes, uint32_t left, uint32_t right);
 /* One value, the number of the name that has these bytes; none where no name has them. Refusals: 12. */

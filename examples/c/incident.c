@@ -94,6 +94,9 @@ int main(void)
     print("check names, a byte short", sheafwinch_check_names(names, sizeof names - 1));
     print("check name 3", sheafwinch_check_name(names, sizeof names, 3));
     print("count names", sheafwinch_count_names(names, sizeof names));
+    print("show name 0", sheafwinch_show_name(names, sizeof names, 0));
+    print("show name 2", sheafwinch_show_name(names, sizeof names, 2));
+    print("show name 3", sheafwinch_show_name(names, sizeof names, 3));
     print("compare 1 2", sheafwinch_compare_names(names, sizeof names, 1, 2));
     print("find y", sheafwinch_find_name(names, sizeof names, (const uint8_t *)"y", 1));
     print("find z", sheafwinch_find_name(names, sizeof names, (const uint8_t *)"z", 1));
