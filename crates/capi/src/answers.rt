@@ -38,49 +38,140 @@ const REFUSED: u32 = 4;
 fn eight(v0: u32, v1: u32, v2: u32, v3: u32, v4: u32, v5: u32, v6: u32, v7: u32) -> Answer
     ensures { λ r. ⌜ r ≡ answer 0 0 0 (v0 ∷ v1 ∷ v2 ∷ v3 ∷ v4 ∷ v5 ∷ v6 ∷ v7 ∷ []) ⌝ }
 {
-    Answer { kind: DONE, number: 0, steps: 0, count: 8, v0: v0, v1: v1, v2: v2, v3: v3, v4: v4, v5: v5, v6: v6, v7: v7 }
+    Answer {
+        kind: DONE,
+        number: 0,
+        steps: 0,
+        count: 8,
+        v0: v0,
+        v1: v1,
+        v2: v2,
+        v3: v3,
+        v4: v4,
+        v5: v5,
+        v6: v6,
+        v7: v7,
+    }
 }
 
 // Six.
 fn six(v0: u32, v1: u32, v2: u32, v3: u32, v4: u32, v5: u32) -> Answer
     ensures { λ r. ⌜ r ≡ answer 0 0 0 (v0 ∷ v1 ∷ v2 ∷ v3 ∷ v4 ∷ v5 ∷ []) ⌝ }
 {
-    Answer { kind: DONE, number: 0, steps: 0, count: 6, v0: v0, v1: v1, v2: v2, v3: v3, v4: v4, v5: v5, v6: 0, v7: 0 }
+    Answer {
+        kind: DONE,
+        number: 0,
+        steps: 0,
+        count: 6,
+        v0: v0,
+        v1: v1,
+        v2: v2,
+        v3: v3,
+        v4: v4,
+        v5: v5,
+        v6: 0,
+        v7: 0,
+    }
 }
 
 // Four.
 fn four(kind: u32, number: u32, steps: u32, v0: u32, v1: u32, v2: u32, v3: u32) -> Answer
     ensures { λ r. ⌜ r ≡ answer kind number steps (v0 ∷ v1 ∷ v2 ∷ v3 ∷ []) ⌝ }
 {
-    Answer { kind: kind, number: number, steps: steps, count: 4, v0: v0, v1: v1, v2: v2, v3: v3, v4: 0, v5: 0, v6: 0, v7: 0 }
+    Answer {
+        kind: kind,
+        number: number,
+        steps: steps,
+        count: 4,
+        v0: v0,
+        v1: v1,
+        v2: v2,
+        v3: v3,
+        v4: 0,
+        v5: 0,
+        v6: 0,
+        v7: 0,
+    }
 }
 
 // Three.
 fn three(kind: u32, number: u32, steps: u32, v0: u32, v1: u32, v2: u32) -> Answer
     ensures { λ r. ⌜ r ≡ answer kind number steps (v0 ∷ v1 ∷ v2 ∷ []) ⌝ }
 {
-    Answer { kind: kind, number: number, steps: steps, count: 3, v0: v0, v1: v1, v2: v2, v3: 0, v4: 0, v5: 0, v6: 0, v7: 0 }
+    Answer {
+        kind: kind,
+        number: number,
+        steps: steps,
+        count: 3,
+        v0: v0,
+        v1: v1,
+        v2: v2,
+        v3: 0,
+        v4: 0,
+        v5: 0,
+        v6: 0,
+        v7: 0,
+    }
 }
 
 // Two.
 pub fn two(kind: u32, number: u32, steps: u32, v0: u32, v1: u32) -> Answer
     ensures { λ r. ⌜ r ≡ answer kind number steps (v0 ∷ v1 ∷ []) ⌝ }
 {
-    Answer { kind: kind, number: number, steps: steps, count: 2, v0: v0, v1: v1, v2: 0, v3: 0, v4: 0, v5: 0, v6: 0, v7: 0 }
+    Answer {
+        kind: kind,
+        number: number,
+        steps: steps,
+        count: 2,
+        v0: v0,
+        v1: v1,
+        v2: 0,
+        v3: 0,
+        v4: 0,
+        v5: 0,
+        v6: 0,
+        v7: 0,
+    }
 }
 
 // One.
 fn one(kind: u32, number: u32, steps: u32, v0: u32) -> Answer
     ensures { λ r. ⌜ r ≡ answer kind number steps (v0 ∷ []) ⌝ }
 {
-    Answer { kind: kind, number: number, steps: steps, count: 1, v0: v0, v1: 0, v2: 0, v3: 0, v4: 0, v5: 0, v6: 0, v7: 0 }
+    Answer {
+        kind: kind,
+        number: number,
+        steps: steps,
+        count: 1,
+        v0: v0,
+        v1: 0,
+        v2: 0,
+        v3: 0,
+        v4: 0,
+        v5: 0,
+        v6: 0,
+        v7: 0,
+    }
 }
 
 // None.
 fn none(kind: u32, number: u32, steps: u32) -> Answer
     ensures { λ r. ⌜ r ≡ answer kind number steps [] ⌝ }
 {
-    Answer { kind: kind, number: number, steps: steps, count: 0, v0: 0, v1: 0, v2: 0, v3: 0, v4: 0, v5: 0, v6: 0, v7: 0 }
+    Answer {
+        kind: kind,
+        number: number,
+        steps: steps,
+        count: 0,
+        v0: 0,
+        v1: 0,
+        v2: 0,
+        v3: 0,
+        v4: 0,
+        v5: 0,
+        v6: 0,
+        v7: 0,
+    }
 }
 
 // A refusal, after so many steps.
@@ -95,7 +186,12 @@ pub fn of_refusal(steps: u32, refusal: Refusal) -> Answer
         Refusal::NoRoom(region) => one(REFUSED, 5, steps, region),
         Refusal::TooDeep => none(REFUSED, 6, steps),
         Refusal::BadFields => none(REFUSED, 7, steps),
-        Refusal::Broken { kind, sub, sup, name } => four(REFUSED, 8, steps, kind, sub, sup, name),
+        Refusal::Broken {
+            kind,
+            sub,
+            sup,
+            name,
+        } => four(REFUSED, 8, steps, kind, sub, sup, name),
         Refusal::BadCapacity => none(REFUSED, 9, steps),
         Refusal::Level => none(REFUSED, 10, steps),
         Refusal::NotAVariable => none(REFUSED, 11, steps),
@@ -200,9 +296,25 @@ pub fn of_record(read: Record) -> Answer
     ensures { λ r. ⌜ r ≡ answerOf 0 (toldRecord read) ⌝ }
 {
     match read {
-        Record::Entry { kind, x, y, z, flags, spread, negation } => eight(1, kind, x, y, z, flags, spread, negation),
-        Record::Field { name, entry, optional } => four(DONE, 0, 0, 2, name, entry, optional),
-        Record::Bound { variable, side, bound } => four(DONE, 0, 0, 3, variable, side, bound),
+        Record::Entry {
+            kind,
+            x,
+            y,
+            z,
+            flags,
+            spread,
+            negation,
+        } => eight(1, kind, x, y, z, flags, spread, negation),
+        Record::Field {
+            name,
+            entry,
+            optional,
+        } => four(DONE, 0, 0, 2, name, entry, optional),
+        Record::Bound {
+            variable,
+            side,
+            bound,
+        } => four(DONE, 0, 0, 3, variable, side, bound),
         Record::Visited { sub, sup } => three(DONE, 0, 0, 4, sub, sup),
         Record::Pending { sub, sup } => three(DONE, 0, 0, 5, sub, sup),
         Record::Equal { left, right } => three(DONE, 0, 0, 6, left, right),

@@ -69,7 +69,12 @@ pub extern "C" fn sheafwinch_check(image: &[u32]) -> bool
 
 // Starts an image in the lent words.
 #[no_mangle]
-pub extern "C" fn sheafwinch_start(image: &mut [u32], names: u32, functor: u32, capacities: Capacities) -> Answer
+pub extern "C" fn sheafwinch_start(
+    image: &mut [u32],
+    names: u32,
+    functor: u32,
+    capacities: Capacities,
+) -> Answer
     ensures { λ r. ⌜ r ≡ answerOf 0 (startOf names functor (capacitiesOf capacities) (now (image .entry)) .says) ⌝ }
     ensures { λ _. ⌜ now (image .exit) ≡ startOf names functor (capacitiesOf capacities) (now (image .entry)) .words ⌝ }
 {
@@ -131,7 +136,13 @@ pub extern "C" fn sheafwinch_make_lambda(image: &mut [u32], param: u32, body: u3
 
 // Makes an attrset with the fields of a list.
 #[no_mangle]
-pub extern "C" fn sheafwinch_make_attrset(image: &mut [u32], fields: &[u32], is_open: u32, has_dynamic: u32, dynamic: u32) -> Answer
+pub extern "C" fn sheafwinch_make_attrset(
+    image: &mut [u32],
+    fields: &[u32],
+    is_open: u32,
+    has_dynamic: u32,
+    dynamic: u32,
+) -> Answer
     ensures { λ r. ⌜ r ≡ answerOf 0 (perform (makesAttrset (now (fields .entry)) (flagOf is_open) (dynamicOf «has_dynamic» dynamic)) (now (image .entry)) .says) ⌝ }
     ensures { λ _. ⌜ now (image .exit) ≡ perform (makesAttrset (now (fields .entry)) (flagOf is_open) (dynamicOf «has_dynamic» dynamic)) (now (image .entry)) .words ⌝ }
 {
@@ -193,7 +204,12 @@ pub extern "C" fn sheafwinch_mark(image: &mut [u32], n: u32) -> Answer
 
 // Puts a bound of a variable.
 #[no_mangle]
-pub extern "C" fn sheafwinch_put_bound(image: &mut [u32], variable: u32, side: u32, bound: u32) -> Answer
+pub extern "C" fn sheafwinch_put_bound(
+    image: &mut [u32],
+    variable: u32,
+    side: u32,
+    bound: u32,
+) -> Answer
     ensures { λ r. ⌜ r ≡ answerOf 0 (perform (putsBound variable side bound) (now (image .entry)) .says) ⌝ }
     ensures { λ _. ⌜ now (image .exit) ≡ perform (putsBound variable side bound) (now (image .entry)) .words ⌝ }
 {
@@ -244,7 +260,12 @@ pub extern "C" fn sheafwinch_ask(image: &mut [u32], held: u32, sub: u32, sup: u3
 
 // Asks whether each of two entries fits under the other.
 #[no_mangle]
-pub extern "C" fn sheafwinch_ask_equal(image: &mut [u32], held: u32, left: u32, right: u32) -> Answer
+pub extern "C" fn sheafwinch_ask_equal(
+    image: &mut [u32],
+    held: u32,
+    left: u32,
+    right: u32,
+) -> Answer
     ensures { λ r. ⌜ r ≡ answerOf 0 (perform (asksEqual (flagOf held) left right) (now (image .entry)) .says) ⌝ }
     ensures { λ _. ⌜ now (image .exit) ≡ perform (asksEqual (flagOf held) left right) (now (image .entry)) .words ⌝ }
 {
