@@ -1,0 +1,3 @@
+pub mod OneToOne
+pub mod Settled
+pub mod Placing

@@ -1,0 +1,25 @@
+-- `sheafwinch_make_variable`: the call, then its answer.
+use borrow.Author.Needs.{needs}
+use mathlib.Core.Path.{ap, _∙_}
+use Rattle.model.specs.Told.{Told}
+use Rattle.capi.specs.Answers.{answerOf}
+use Rattle.capi.proofs.sheafwinch_make_variable.Statement.{statement}
+use Rattle.capi.proofs.sheafwinch_make_variable.Tie as tie
+
+make-variable-requires : tie.Need-make-variable-requires
+make-variable-requires c κs = search needs
+
+of-made-requires : tie.Need-of-made-requires
+of-made-requires c κs = search needs
+
+same-length : tie.Need-same-length
+same-length c = search needs
+
+returns : tie.Need-returns
+returns c =
+    let d = c .before .before .before .make-variable .ensures in
+    (c .of-made .ensures ∙ ap (λ (t : Told). answerOf 0 t) (d .0), d .1)
+
+pub sheafwinch-make-variable-spec : {M : Type 1} → statement M
+sheafwinch-make-variable-spec =
+    tie.close (tie.spec make-variable-requires of-made-requires same-length returns)
