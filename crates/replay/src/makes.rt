@@ -21,14 +21,28 @@ pub fn is_make(letter: u8) -> bool {
 pub fn make(words: &mut [u32], letter: u8, line: &[u32; 32], rest: &[u32]) -> Made {
     match letter {
         b'v' => sheafwinch::make_variable(words),
-        b'p' => sheafwinch::make_primitive(words, line[1]),
-        b'l' => sheafwinch::make_list(words, line[1]),
-        b'f' => sheafwinch::make_lambda(words, line[1], line[2]),
         b't' => sheafwinch::make_attrset(words, rest, line[1] != 0, dynamic(line[2])),
-        b'd' => sheafwinch::make_named(words, line[1], line[2]),
-        b'g' => sheafwinch::make_neg(words, line[1]),
-        b'i' => sheafwinch::make_inter(words, line[1], line[2]),
-        _ => sheafwinch::make_union(words, line[1], line[2]),
+        b'p' | b'l' | b'g' => make_of_one(words, letter, line[1]),
+        _ => make_of_two(words, letter, line[1], line[2]),
+    }
+}
+
+// A primitive, a list or a negation.
+fn make_of_one(words: &mut [u32], letter: u8, x: u32) -> Made {
+    match letter {
+        b'p' => sheafwinch::make_primitive(words, x),
+        b'l' => sheafwinch::make_list(words, x),
+        _ => sheafwinch::make_neg(words, x),
+    }
+}
+
+// A lambda, a named entry, an intersection or a union.
+fn make_of_two(words: &mut [u32], letter: u8, x: u32, y: u32) -> Made {
+    match letter {
+        b'f' => sheafwinch::make_lambda(words, x, y),
+        b'd' => sheafwinch::make_named(words, x, y),
+        b'i' => sheafwinch::make_inter(words, x, y),
+        _ => sheafwinch::make_union(words, x, y),
     }
 }
 

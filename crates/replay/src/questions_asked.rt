@@ -145,11 +145,16 @@ fn failed(f: Failure, steps: u32) -> Worked {
 fn compare(tally: &mut [u32; 96], line: &[u32; 32], w: Worked) {
     expect(tally, b"answer", line[4], w.answer);
     expect(tally, b"steps", line[3], w.steps);
+    compare_pair(tally, line, w);
+    add(tally, STEPS, w.steps);
+    count_answer(tally, w.answer);
+}
+
+// Its pair and its name.
+fn compare_pair(tally: &mut [u32; 96], line: &[u32; 32], w: Worked) {
     expect(tally, b"answer's sub", line[5], w.sub);
     expect(tally, b"answer's sup", line[6], w.sup);
     expect(tally, b"answer's name", line[7], w.name);
-    add(tally, STEPS, w.steps);
-    count_answer(tally, w.answer);
 }
 
 // Counts an answer.

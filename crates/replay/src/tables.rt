@@ -2,9 +2,7 @@
 ghost use mathlib.Core.Path.{_≡_};
 ghost use lib.ListN.{length};
 
-// Where the header has the state, the level, and the counts of the regions.
-pub const STATE: usize = 1;
-
+// Where the header has the level, and the counts of the regions.
 pub const LEVEL: usize = 6;
 
 pub const ENTRIES: usize = 11;

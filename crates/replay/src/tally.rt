@@ -95,48 +95,72 @@ fn print_count(name: &[u8], n: u32) {
 
 // All counts.
 pub fn print_tally(tally: &[u32; 96]) {
+    print_questions(tally);
+    print_totals(tally);
+    print_rules(tally);
+}
+
+// Scripts, questions and their answers.
+fn print_questions(tally: &[u32; 96]) {
     print_count(b"scripts", tally[SCRIPTS]);
     print_count(b"questions", tally[QUESTIONS]);
-    print_count(b"  answered yes", tally[18]);
-    print_count(b"  stopped at the limit", tally[19]);
-    print_count(b"  mismatch", tally[20]);
-    print_count(b"  missing field", tally[21]);
+    print_two(
+        b"  answered: yes, and stopped at the limit",
+        tally[18],
+        tally[19],
+    );
+    print_two(
+        b"  failed: mismatch, and missing field",
+        tally[20],
+        tally[21],
+    );
+}
+
+// How the questions were worked, and what differed.
+fn print_totals(tally: &[u32; 96]) {
     print_count(b"instalments", tally[INSTALMENTS]);
     print_count(b"steps", tally[STEPS]);
     print_count(b"differences", tally[DIFFERENCES]);
-    print(b"How often each rule was hit:\n");
+}
+
+// How often each rule was hit.
+fn print_rules(tally: &[u32; 96]) {
+    print(
+        b"How often each rule was hit; where there are two counts, on the left and on the right:\n",
+    );
     print_variables(tally);
+    print_bounds(tally);
     print_shapes(tally);
-    print_fields(tally);
+    print_attrsets(tally);
     print_negations(tally);
     print_inters(tally);
     print_unions(tally);
 }
 
-// A count with its name, for the left case and the right one.
+// Two counts with their name.
 fn print_two(name: &[u8], left: u32, right: u32) {
     print(name);
     print(b": ");
     print_number(left);
-    print(b" left, ");
+    print(b", ");
     print_number(right);
-    print(b" right\n");
+    print(b"\n");
 }
 
-// The rules with a variable, and pairs that no rule worked.
+// The rules with a variable.
 fn print_variables(tally: &[u32; 96]) {
-    print_count(
-        b"equal numbers, or visited before",
-        std::num::wrapping_sub_u32(tally[STEPS], tally[VISITED]),
-    );
     print_count(b"variable under variable", tally[24]);
     print_count(b"variable under concrete", tally[25]);
     print_count(b"concrete under variable", tally[26]);
+}
+
+// How many of those added no bound, marks, and pairs that no rule worked.
+fn print_bounds(tally: &[u32; 96]) {
     print_count(b"  of these three, the bound was there", repeated(tally));
-    print_count(
-        b"  marks passed on",
-        std::num::wrapping_sub_u32(tally[MARKS], tally[MARKS_PUT]),
-    );
+    let marks = std::num::wrapping_sub_u32(tally[MARKS], tally[MARKS_PUT]);
+    print_count(b"  marks passed on", marks);
+    let idle = std::num::wrapping_sub_u32(tally[STEPS], tally[VISITED]);
+    print_count(b"equal numbers, or visited before", idle);
 }
 
 // How many of the rules with a variable added no bound.
@@ -147,26 +171,41 @@ fn repeated(tally: &[u32; 96]) -> u32 {
     std::num::wrapping_sub_u32(visits, added)
 }
 
-// Rules of two like shapes, and the last.
+// Rules of shapes, and the last.
 fn print_shapes(tally: &[u32; 96]) {
     print_two(b"named", tally[27], tally[28]);
     print_count(b"lambdas", tally[29]);
     print_count(b"lists", tally[30]);
-    print_count(b"equal primitives", tally[32]);
-    print_count(b"Int or Float under Number", tally[33]);
+    print_primitives(tally);
     print_count(b"functor under lambda", tally[62]);
     print_count(b"no rule fits, mismatch", tally[63]);
 }
 
-// Attrsets, and how sup's fields were met.
-fn print_fields(tally: &[u32; 96]) {
+// Of primitives.
+fn print_primitives(tally: &[u32; 96]) {
+    print_count(b"equal primitives", tally[32]);
+    print_count(b"Int or Float under Number", tally[33]);
+}
+
+// Attrsets.
+fn print_attrsets(tally: &[u32; 96]) {
     print_count(b"attrsets", tally[31]);
+    print_fields(tally);
+    print_absent(tally);
+    print_count(b"  two dynamic types", tally[69]);
+}
+
+// Sup's fields that sub has.
+fn print_fields(tally: &[u32; 96]) {
     print_count(b"  sup's field, the same field", tally[64]);
     print_count(b"  sup's field, sub's dynamic type", tally[65]);
+}
+
+// Those that it has not.
+fn print_absent(tally: &[u32; 96]) {
     print_count(b"  sup's field, sub open", tally[66]);
     print_count(b"  sup's field, optional", tally[67]);
     print_count(b"  sup's field, missing", tally[68]);
-    print_count(b"  two dynamic types", tally[69]);
 }
 
 // The rules with a negation on the right.
@@ -176,12 +215,17 @@ fn print_negations(tally: &[u32; 96]) {
     print_count(b"under neg, mismatch", tally[36]);
 }
 
-// The rules with an intersection, or a union on the left. Where one side is chosen, the side.
+// The rules with an intersection, or a union on the left.
 fn print_inters(tally: &[u32; 96]) {
     print_count(b"inter on the right", tally[37]);
     print_count(b"union on the left", tally[38]);
     print_count(b"inter on the left, both chosen", tally[39]);
     print_count(b"inter on the left, none chosen", tally[40]);
+    print_chosen(tally);
+}
+
+// An intersection with one side chosen: which.
+fn print_chosen(tally: &[u32; 96]) {
     print_two(
         b"inter on the left, one chosen, mismatch",
         tally[41],
@@ -199,9 +243,17 @@ fn print_inters(tally: &[u32; 96]) {
     );
 }
 
-// The rules with a union on the right. With one variable, the concrete side; else the side that is taken.
+// The rules with a union on the right.
 fn print_unions(tally: &[u32; 96]) {
     print_count(b"union on the right, both variables", tally[47]);
+    print_compatible(tally);
+    print_count(b"union on the right, both disjoint, mismatch", tally[56]);
+    print_taken(tally);
+    print_count(b"union on the right, both", tally[61]);
+}
+
+// With one variable: the concrete side.
+fn print_compatible(tally: &[u32; 96]) {
     print_two(
         b"union on the right, one variable, same kind",
         tally[48],
@@ -222,7 +274,10 @@ fn print_unions(tally: &[u32; 96]) {
         tally[54],
         tally[55],
     );
-    print_count(b"union on the right, both disjoint, mismatch", tally[56]);
+}
+
+// With none: the side that is taken.
+fn print_taken(tally: &[u32; 96]) {
     print_two(
         b"union on the right, one not disjoint",
         tally[57],
@@ -233,5 +288,4 @@ fn print_unions(tally: &[u32; 96]) {
         tally[59],
         tally[60],
     );
-    print_count(b"union on the right, both", tally[61]);
 }
