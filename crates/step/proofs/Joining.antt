@@ -2,19 +2,18 @@
 use Prim.Native.Nat.{ℕ, _+_, _-_, _≤_, _<_}
 use native.Mathlib.Omega.{arith}
 use mathlib.Core.Path.{_≡_, refl, sym, ap, subst, _∙_}
-use mathlib.Core.List.{List, [], _∷_, _++_, map, reverse}
-use mathlib.Core.Bool.{Bool, true, false, _&&_}
+use mathlib.Core.List.{List, _++_, map, reverse}
 use lib.ListN.{length, take, length-map}
-use lib.Dec.{eqb}
 use Rattle.instalments.specs.Machine.{Outcome, goes}
-use Rattle.model.specs.Format.{variable, lower, upper}
-use Rattle.model.specs.Table.{Bound, Pair, _⊑_, Store, Table, tableOf, entryAt, isAt, marked, withBounds, withEntries, withVisited}
-use Rattle.model.specs.Making.{boundsIn, repeats, addBound, markEntry}
+use Rattle.model.specs.Format.{lower, upper}
+use Rattle.model.specs.Table.{Bound, Pair, _⊑_, Store, Table, tableOf, withBounds, withVisited}
+use Rattle.model.specs.Making.{boundsIn, repeats, addBound}
 use Rattle.model.specs.Rules.{visit, passMark, subVariable, supVariable, outcomeOf}
 use Rattle.model.specs.Room.{fitting, roomFor}
 use Rattle.model.specs.declared.Failure.{Failure}
 use Rattle.model.specs.declared.Refusal.{Refusal}
 use Rattle.laws.proofs.Stores.{by-test}
+use Rattle.laws.proofs.Effects.{add-bounds, pass-bounds}
 use Rattle.image.specs.Shown.{Shows, Shown, storeOf, entriesOf, boundsAll, visitedIn, pendingIn, pendingTo}
 use Rattle.image.proofs.Laying.{seen, shown}
 use Rattle.constrain.specs.declared.Next.the-variants.{Upper, Lower}
@@ -26,23 +25,8 @@ use Rattle.step.specs.declared.Room.the-variants.{Enough, Lacks}
 use Rattle.step.proofs.Rooms.{fits, room-found, visited-room, pass-room}
 use Rattle.step.proofs.Taking.{Answers, refused, went}
 
--- a bound added on one side is none of the other side
-other-side : (bs : List Bound) (r : Bound) (v side : ℕ) → (eqb (r .variable) v && eqb (r .side) side) ≡ false → boundsIn (bs ++ (r ∷ [])) v side ≡ boundsIn bs v side
-unfolding boundsIn
-other-side [] r v side e = rw e
-other-side (x ∷ bs) r v side e = rw (other-side bs r v side e)
-
-differs : (t : Bool) → (t && false) ≡ false
-differs true = refl
-differs false = refl
-
+-- a bound added leaves the entries and the capacities
 module _ (s : Store) (v side b : ℕ) where
-  added-others : (other : ℕ) → eqb side other ≡ false → boundsIn (addBound v side b s .bounds) v other ≡ boundsIn (s .bounds) v other
-  unfolding addBound withBounds
-  added-others other e =
-      by-test (λ (u : Store). boundsIn (u .bounds) v other ≡ boundsIn (s .bounds) v other) (repeats (boundsIn (s .bounds) v side) b) (λ h. refl)
-      (λ h. other-side (s .bounds) (record { variable = v; side = side; bound = b }) v other (rw e (differs (eqb v v))))
-
   added-entries : addBound v side b s .entries ≡ s .entries
   unfolding addBound withBounds
   added-entries = by-test (λ (u : Store). u .entries ≡ s .entries) (repeats (boundsIn (s .bounds) v side) b) (λ h. refl) (λ h. refl)
@@ -70,11 +54,7 @@ pub record Joins (w : List ℕ) (after : Store) (v other more : ℕ) (found : Ro
 
 pub lower-joins : (w : List ℕ) (sub sup more : ℕ) (found : RoomFound) → more ≡ length (boundsIn (boundsAll w) sup upper) → RoomFor w (addBound sup lower sub (storeOf w)) more found
     → Joins w (addBound sup lower sub (storeOf w)) sup upper more found
-lower-joins w sub sup more found e q = record { room = q; counted = ap length (added-others (storeOf w) sup lower sub upper refl) ∙ sym e }
-
-passed-bounds : (s : Store) (sub sup : ℕ) → passMark sub sup s .bounds ≡ s .bounds
-unfolding passMark markEntry withEntries
-passed-bounds s sub sup = by-test (λ (u : Store). u .bounds ≡ s .bounds) (isAt (s .entries) variable sup && marked (entryAt (s .entries) sub)) (λ h. refl) (λ h. refl)
+lower-joins w sub sup more found e q = record { room = q; counted = ap length (add-bounds (storeOf w) sup sub sup lower upper refl) ∙ sym e }
 
 pub upper-joins : (w : List ℕ) (sub sup more : ℕ) (found : RoomFound) → more ≡ length (boundsIn (boundsAll w) sub lower) → RoomFor w (addBound sub upper sup (storeOf w)) more found
     → Joins w (passMark sub sup (addBound sub upper sup (storeOf w))) sub lower more found
@@ -82,7 +62,7 @@ upper-joins w sub sup more found e q =
     let u : Store = addBound sub upper sup (storeOf w) in
     record {
       room = λ p. q p ∙ sym (pass-room sub sup u p (length (beforeLast w) + more));
-      counted = ap (λ (bs : List Bound). length (boundsIn bs sub lower)) (passed-bounds u sub sup) ∙ ap length (added-others (storeOf w) sub upper sup lower refl) ∙ sym e;
+      counted = ap (λ (bs : List Bound). length (boundsIn bs sub lower)) (pass-bounds u sub sup) ∙ ap length (add-bounds (storeOf w) sub sup sub upper lower refl) ∙ sym e;
     }
 
 -- the mark, and the pair taken off, over words that show a table

@@ -3,12 +3,12 @@ use Prim.Native.Nat.{ℕ, zero, suc, _+_, _-_, _≤_, _<_}
 use native.Mathlib.Omega.{arith}
 use mathlib.Core.Path.{_≡_, refl, sym, ap, _∙_}
 use mathlib.Core.List.{List, [], _∷_, _++_}
-use mathlib.Core.Bool.{Bool, true, false, cond, _&&_, _||_}
+use mathlib.Core.Bool.{Bool, true, false, _&&_, _||_}
 use lib.ListN.{length, length-append}
 use lib.Seq.{length-take-le}
 use lib.Dec.{T, ltb}
 use borrow.Author.Tests.{lt-ltb, le-ltb, ltb-false}
-use Rattle.instalments.specs.Machine.{Room, enough, lacks}
+use Rattle.instalments.specs.Machine.{enough}
 use Rattle.model.specs.Lists.{any}
 use Rattle.model.specs.Format.{boundsRegion, visitedRegion, pendingRegion, spreadMost, variable}
 use Rattle.model.specs.Table.{Entry, Bound, Pair, _⊑_, Store, entryAt, isAt, isBroken, marked, withVisited, withBounds, withBroken, withEntries}
@@ -17,11 +17,10 @@ use Rattle.model.specs.Making.{tooDeep, boundsIn, repeats, addBound, changed, w
 use Rattle.model.specs.Rules.{visit, fillBreak, passMark}
 use Rattle.model.specs.Room.{fitting}
 use Rattle.model.specs.declared.Failure.{Failure}
-use Rattle.model.specs.declared.Refusal.{Refusal}
 use Rattle.model.specs.declared.Refusal.the-variants.{NoRoom}
 use Rattle.laws.proofs.Entries.{changed-length}
 use Rattle.laws.proofs.Formed.{sound-table}
-use Rattle.laws.proofs.StepSound.{fitting-enough}
+use Rattle.laws.proofs.StepSound.{passes, fitting-enough}
 use Rattle.laws.proofs.Stores.{by-test}
 use Rattle.image.specs.Shown.{storeOf, boundsAll, visitedIn, pendingIn}
 use Rattle.step.specs.Taken.{beforeLast, roomIn, RoomFor, RoomForBound}
@@ -65,10 +64,6 @@ module _ (w : List ℕ) (good : T (wellFormed w)) (more : ℕ) where
         (record { entries = k .entries; fields = k .fields; bounds = k .bounds; visited = omega (arith, one-more (visitedIn w) p); equals = k .equals }) h (s .shallow))
 
 -- what has room passed every test
-passes : (t : Bool) (w : Refusal) (r : Room Refusal) → cond t (lacks w) r ≡ enough → (t ≡ false) × (r ≡ enough)
-passes true w r e = let z : _≡_ {A = ℕ} 0 1 = cc in absurd (omega arith)
-passes false w r e = (refl, e)
-
 pub record Fits (u : Store) (n : ℕ) : Type 0 where
   pub bounds : length (u .bounds) ≤ u .capacities .bounds
   pub visited : length (u .visited) ≤ u .capacities .visited
