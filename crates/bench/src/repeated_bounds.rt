@@ -64,6 +64,9 @@ fn put_bounds(words: &mut [u32]) {
 
 // Puts a lower bound, and tells how many there are then.
 fn print_put(words: &mut [u32], bound: u32) {
-// The variable, by its number.
-const VARIABLE: u32 = 0;
+    sheafwinch::put_bound(words, VARIABLE, image::LOWER, bound);
+    print(b"; then ");
+    print_number(bound);
+    print(b": ");
+    print_number(count(words, BOUNDS));
 }
