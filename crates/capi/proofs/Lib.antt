@@ -1,3 +1,4 @@
 pub mod OneToOne
-pub mod Settled
+pub mod Telling
 pub mod Placing
+pub mod Settled

@@ -7,7 +7,7 @@ use Rattle.model.specs.Told.{Told}
 use Rattle.model.specs.Calls.{Reply, perform, makesAttrset}
 use Rattle.model.specs.declared.Dynamic.{Dynamic}
 use Rattle.capi.specs.Answers.{answerOf}
-use Rattle.capi.proofs.Settled.{both}
+use Rattle.capi.proofs.Telling.{both}
 use Rattle.capi.proofs.sheafwinch_make_attrset.Statement.{statement}
 use Rattle.capi.proofs.sheafwinch_make_attrset.Tie as tie
 

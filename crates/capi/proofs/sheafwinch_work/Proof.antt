@@ -1,6 +1,6 @@
 -- `sheafwinch_work`: the call, then its answer.
 use borrow.Author.Needs.{needs}
-use Rattle.capi.proofs.Settled.{worked}
+use Rattle.capi.proofs.Telling.{worked}
 use Rattle.capi.proofs.sheafwinch_work.Statement.{statement}
 use Rattle.capi.proofs.sheafwinch_work.Tie as tie
 

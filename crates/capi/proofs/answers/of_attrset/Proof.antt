@@ -1,6 +1,6 @@
 -- `of_attrset`: with or without a dynamic type.
 use borrow.Author.Needs.{needs}
-use Rattle.capi.proofs.Settled.{without, within}
+use Rattle.capi.proofs.Telling.{without, within}
 use Rattle.capi.proofs.answers.of_attrset.Statement.{statement}
 use Rattle.capi.proofs.answers.of_attrset.Tie as tie
 
