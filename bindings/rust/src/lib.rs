@@ -505,9 +505,9 @@ impl Table {
     /// A table with no records, level 0, no question asked. `names` is how many names there are, `functor` the number of the name
     /// `__functor`. Refusals: 9.
     pub fn start(names: u32, functor: Option<u32>, capacities: Capacities) -> Result<Table, Refusal> {
-        // A functor that has no number plus 1 is no name.
-        let functor = functor.map_or(Some(0), |n| n.checked_add(1)).ok_or(Refusal::BadCapacity)?;
-        // Without words for capacities over their most: start refuses them before it looks at a word.
+        // The word is the functor's number plus 1; the last number is over any table's names, with or without 1 more.
+        let functor = functor.map_or(0, |n| n.saturating_add(1));
+        // Without words for capacities over their most: start refuses them.
         let mut words = vec![0; capacities.words().unwrap_or(0)];
         // SAFETY: the words are ours, and are all there.
         done(unsafe { raw::sheafwinch_start(words.as_mut_ptr(), words.len(), names, functor, capacities) })?;
