@@ -1,4 +1,3 @@
 pub mod OneToOne
 pub mod Telling
-pub mod Placing
 pub mod Settled

@@ -7,7 +7,6 @@ use mathlib.Core.List.{List, [], _∷_}
 use mathlib.Core.Bool.{Bool, true, false, cond, _&&_}
 use lib.ListN.{length, take}
 use lib.Dec.{eqb, ltb}
-use Rattle.model.specs.Lists.{allOf}
 use Rattle.model.specs.Told.{Told, done, yes, more, failed, refused, toldRefusal, toldFailure, toldReply, toldMade, toldAnswer, toldAttrset, toldEntry, toldEntryRead, toldRecord, toldDisjointness}
 use Rattle.model.specs.declared.Refusal.{Refusal}
 use Rattle.model.specs.declared.Refusal.the-variants as R
@@ -29,18 +28,19 @@ use Rattle.model.specs.declared.Record.{Record}
 use Rattle.model.specs.declared.Record.the-variants as RR
 use Rattle.model.specs.declared.Disjointness.{Disjointness}
 use Rattle.model.specs.declared.Disjointness.the-variants as J
-use Rattle.names.specs.Names.{accepted, nameCount, namesRight, nameCall, checkName, showName, shownAt}
-use Rattle.names.specs.Answers.{toldCounted, toldCompared, toldFound}
+use Rattle.names.specs.Answers.{toldCounted, toldCompared, toldFound, toldPlaced}
 use Rattle.names.specs.declared.Counted.{Counted}
 use Rattle.names.specs.declared.Counted.the-variants as C
 use Rattle.names.specs.declared.Compared.{Compared}
 use Rattle.names.specs.declared.Compared.the-variants as P
 use Rattle.names.specs.declared.Found.{Found}
 use Rattle.names.specs.declared.Found.the-variants as N
+use Rattle.names.specs.declared.Placed.{Placed}
+use Rattle.names.specs.declared.Placed.the-variants as L
 use Rattle.operators.specs.Operators.{toldResolved}
 use Rattle.operators.specs.declared.Resolved.{Resolved}
 use Rattle.operators.specs.declared.Resolved.the-variants as O
-use Rattle.capi.specs.Answers.{answer, answerOf, placeOf}
+use Rattle.capi.specs.Answers.{answer, answerOf}
 use Rattle.capi.specs.declared.Answer.{Answer}
 
 -- the values that are told
@@ -181,20 +181,11 @@ found-fits (N.At n) = omega arith
 found-fits N.Absent = omega arith
 found-fits (N.Refused r) = refusal-fits r
 
+pub placed-fits : (r : Placed) → Fits (toldPlaced r)
+placed-fits (L.At start bytes) = omega arith
+placed-fits (L.Refused r) = refusal-fits r
+
 pub resolved-fits : (r : Resolved) → Fits (toldResolved r)
 resolved-fits (O.Primitive p) = omega arith
 resolved-fits O.None = omega arith
 resolved-fits (O.Refused r) = refusal-fits r
-
--- a name's place, by the two tests of the check
-abbrev byTests : Bool → Bool → Told
-byTests t u = cond t (cond (u && true) (done []) (toldRefusal R.BadNumber)) (toldRefusal R.BadNames)
-
-by-tests-fit : (t u : Bool) (vs : List ℕ) → length vs ≤ 8 → Fits (cond (accepted (byTests t u)) (done vs) (byTests t u))
-by-tests-fit true true vs h = h
-by-tests-fit true false vs h = omega arith
-by-tests-fit false u vs h = omega arith
-
-pub place-fits : (bs : List ℕ) (n : ℕ) → Fits (placeOf bs n)
-unfolding checkName nameCall allOf
-place-fits bs n = by-tests-fit (namesRight bs) (ltb n (nameCount bs)) (shownAt bs n ∷ length (showName bs n) ∷ []) (omega arith)

@@ -9,7 +9,6 @@ use Rattle.model.specs.Told.{Told, done, yes, more, failed, refused}
 use Rattle.model.specs.Table as T
 use Rattle.model.specs.declared.Dynamic.{Dynamic}
 use Rattle.model.specs.declared.Dynamic.the-variants.{Absent, Present}
-use Rattle.names.specs.Names.{accepted, checkName, showName, shownAt}
 use Rattle.capi.specs.declared.Answer.{Answer}
 use Rattle.capi.specs.declared.Capacities.{Capacities}
 
@@ -49,7 +48,3 @@ dynamicOf has n = cond (flagOf has) (Present n) Absent
 -- capacities as they are handed over
 abbrev pub capacitiesOf : Capacities → T.Capacities
 capacitiesOf c = record { entries = c .entries; fields = c .fields; bounds = c .bounds; visited = c .visited; pending = c .pending; equals = c .equals }
-
--- a name's place: where in the list the bytes start that `names::show` shows, and how many they are; else what the check tells
-abbrev pub placeOf : List ℕ → ℕ → Told
-placeOf bs n = cond (accepted (checkName bs n)) (done (shownAt bs n ∷ length (showName bs n) ∷ [])) (checkName bs n)

@@ -15,11 +15,12 @@ use names::Compared;
 use names::Counted;
 use names::Found;
 use names::Order;
+use names::Placed;
 use operators::Resolved;
 ghost use mathlib.Core.Path.{_≡_};
 ghost use mathlib.Core.List.{[], _∷_};
 ghost use Rattle.model.specs.Told.{done, bit, toldRefusal, toldFailure, toldReply, toldMade, toldAnswer, toldAttrset, toldEntry, toldEntryRead, toldRecord, toldDisjointness};
-ghost use Rattle.names.specs.Answers.{toldCounted, toldOrder, toldCompared, toldFound};
+ghost use Rattle.names.specs.Answers.{toldCounted, toldOrder, toldCompared, toldFound, toldPlaced};
 ghost use Rattle.operators.specs.Operators.{toldResolved};
 ghost use Rattle.capi.specs.Answers.{answer, answerOf};
 
@@ -115,7 +116,7 @@ fn three(kind: u32, number: u32, steps: u32, v0: u32, v1: u32, v2: u32) -> Answe
 }
 
 // Two.
-pub fn two(kind: u32, number: u32, steps: u32, v0: u32, v1: u32) -> Answer
+fn two(kind: u32, number: u32, steps: u32, v0: u32, v1: u32) -> Answer
     ensures { λ r. ⌜ r ≡ answer kind number steps (v0 ∷ v1 ∷ []) ⌝ }
 {
     Answer {
@@ -372,6 +373,16 @@ pub fn of_found(found: Found) -> Answer
         Found::At(n) => one(DONE, 0, 0, n),
         Found::Absent => none(DONE, 0, 0),
         Found::Refused(refusal) => of_refusal(0, refusal),
+    }
+}
+
+// What the call for a name's place answers.
+pub fn of_placed(placed: Placed) -> Answer
+    ensures { λ r. ⌜ r ≡ answerOf 0 (toldPlaced placed) ⌝ }
+{
+    match placed {
+        Placed::At { start, bytes } => two(DONE, 0, 0, start, bytes),
+        Placed::Refused(refusal) => of_refusal(0, refusal),
     }
 }
 

@@ -2,7 +2,6 @@
 // Each is the call that it wraps: its answer is `answerOf` of what the model's call says, its words are the model's.
 // include/sheafwinch.h tells a C programmer the same.
 mod answers;
-mod places;
 
 use model::Dynamic;
 use model::Reply;
@@ -10,9 +9,9 @@ ghost use mathlib.Core.Path.{_≡_};
 ghost use Rattle.model.specs.Formed.{wellFormed};
 ghost use Rattle.model.specs.Calls.{perform, makesVariable, makesPrimitive, makesList, makesLambda, makesAttrset, makesNamed, makesNeg, makesInter, makesUnion, marks, putsBound, enters, exits, setsLevel, asks, asksEqual, works, abandons, readsEntry, readsRecord, readsDisjoint};
 ghost use Rattle.model.specs.Calls.{start as startOf};
-ghost use Rattle.names.specs.Names.{checkNames, checkName, countNames, compareAt, findName};
+ghost use Rattle.names.specs.Names.{checkNames, checkName, countNames, compareAt, findName, placeName};
 ghost use Rattle.operators.specs.Operators.{toldResolved, resolved, fromLeft, atOnce};
-ghost use Rattle.capi.specs.Answers.{answerOf, flagOf, dynamicOf, capacitiesOf, placeOf};
+ghost use Rattle.capi.specs.Answers.{answerOf, flagOf, dynamicOf, capacitiesOf};
 
 // An answer: its kind, 01's number of a refusal or a failure, the steps of this call, and so many values.
 #[repr(C)]
@@ -351,13 +350,10 @@ pub extern "C" fn sheafwinch_count_names(list: &[u8]) -> Answer
 // Where in the list name n starts, and how many bytes it has.
 #[no_mangle]
 pub extern "C" fn sheafwinch_show_name(list: &[u8], n: u32) -> Answer
-    ensures { λ r. ⌜ r ≡ answerOf 0 (placeOf (now (list .entry)) n) ⌝ }
+    ensures { λ r. ⌜ r ≡ answerOf 0 (placeName (now (list .entry)) n) ⌝ }
 {
-    let checked = names::check_name(list, n);
-    match checked {
-        Reply::Done => places::place(list, n),
-        Reply::Refused(refusal) => answers::of_refusal(0, refusal),
-    }
+    let answer = names::place(list, n);
+    answers::of_placed(answer)
 }
 
 // How two names of a list compare.

@@ -12,7 +12,7 @@ use Rattle.model.specs.Told.{Told, done, toldRefusal}
 use Rattle.model.specs.declared.Refusal.{Refusal}
 use Rattle.model.specs.declared.Refusal.the-variants.{BadNumber, BadNames}
 use Rattle.names.specs.Names.{nameCount, namesRight, nameCall, checkName, accepted}
-use Rattle.names.proofs.OneToOne.{none-refused}
+use Rattle.names.proofs.OneToOne.{done-refused}
 
 -- a name number that is accepted: the list is right, and has the name
 pub record Named (bs : List ℕ) (n : ℕ) : Type 0 where
@@ -20,10 +20,10 @@ pub record Named (bs : List ℕ) (n : ℕ) : Type 0 where
   pub below : n < nameCount bs
 
 -- the check by its two tests
-abbrev byTests : Bool → Bool → Told
+abbrev pub byTests : Bool → Bool → Told
 byTests t u = cond t (cond (u && true) (done []) (toldRefusal BadNumber)) (toldRefusal BadNames)
 
-both-true : (t u : Bool) → byTests t u ≡ done [] → (t ≡ true) × (u ≡ true)
+pub both-true : (t u : Bool) → byTests t u ≡ done [] → (t ≡ true) × (u ≡ true)
 both-true true true e = (refl, refl)
 both-true true false e = let z : _≡_ {A = ℕ} 0 1 = cc in absurd (omega arith)
 both-true false u e = let z : _≡_ {A = ℕ} 0 1 = cc in absurd (omega arith)
@@ -35,7 +35,7 @@ named bs n e =
     record { right = q .0; below = ltb-true n (nameCount bs) (q .1) }
 
 some-false : (t u : Bool) (r : Refusal) → byTests t u ≡ toldRefusal r → accepted (byTests t u) ≡ false
-some-false true true r e = absurd (none-refused r e)
+some-false true true r e = absurd (done-refused [] r e)
 some-false true false r e = refl
 some-false false u r e = refl
 

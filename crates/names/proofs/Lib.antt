@@ -4,5 +4,6 @@ pub mod Laying
 pub mod Tested
 pub mod OneToOne
 pub mod Calling
+pub mod Placing
 pub mod Settled
 pub mod Laws

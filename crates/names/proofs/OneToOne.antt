@@ -1,16 +1,16 @@
 -- No two answers tell the same: a promise about what is told settles the answer. Assumes nothing.
 use Prim.Native.Nat.{ℕ}
 use native.Mathlib.Omega.{arith}
-use mathlib.Core.Path.{_≡_, refl, sym, ap}
-use mathlib.Core.List.{[], _∷_}
-use mathlib.Core.Bool.{cond}
+use mathlib.Core.Path.{_≡_, refl, sym, ap, _∙_}
+use mathlib.Core.List.{List, [], _∷_}
+use mathlib.Core.Bool.{false, cond}
 use lib.Dec.{eqb}
 use Rattle.model.specs.Told.{done, toldRefusal}
 use Rattle.model.specs.declared.Refusal.{Refusal}
-use Rattle.model.specs.declared.Reply.the-variants as Y
-use Rattle.model.specs.declared.Made.the-variants as N
-use Rattle.model.proofs.OneToOne.{found-once, refusal-one-to-one, reply-one-to-one, made-one-to-one}
-use Rattle.names.specs.Answers.{toldCounted, toldOrder, toldCompared, toldFound}
+use Rattle.model.specs.declared.Refusal.the-variants as R
+use Rattle.model.proofs.OneToOne.{found-once, refusal-one-to-one}
+use Rattle.names.specs.Names.{accepted}
+use Rattle.names.specs.Answers.{toldCounted, toldOrder, toldCompared, toldFound, toldPlaced}
 use Rattle.names.specs.declared.Counted.{Counted}
 use Rattle.names.specs.declared.Counted.the-variants as C
 use Rattle.names.specs.declared.Order.{Order}
@@ -19,24 +19,34 @@ use Rattle.names.specs.declared.Compared.{Compared}
 use Rattle.names.specs.declared.Compared.the-variants as M
 use Rattle.names.specs.declared.Found.{Found}
 use Rattle.names.specs.declared.Found.the-variants as F
+use Rattle.names.specs.declared.Placed.{Placed}
+use Rattle.names.specs.declared.Placed.the-variants as P
 
--- nothing told, and a number told, is no refusal
-pub none-refused : (r : Refusal) → done [] ≡ toldRefusal r → ⊥
-none-refused r e =
-    let same : Y.Done ≡ Y.Refused r = reply-one-to-one Y.Done (Y.Refused r) e in
-    let z : _≡_ {A = ℕ} 0 1 = cc in
-    omega arith
+-- what a call tells where it is done is no refusal
+refusal-refuses : (r : Refusal) → accepted (toldRefusal r) ≡ false
+refusal-refuses R.BadTable = refl
+refusal-refuses R.BadNumber = refl
+refusal-refuses R.Busy = refl
+refusal-refuses R.Idle = refl
+refusal-refuses (R.NoRoom region) = refl
+refusal-refuses R.TooDeep = refl
+refusal-refuses R.BadFields = refl
+refusal-refuses (R.Broken kind sub sup name) = refl
+refusal-refuses R.BadCapacity = refl
+refusal-refuses R.Level = refl
+refusal-refuses R.NotAVariable = refl
+refusal-refuses R.BadNames = refl
 
-number-refused : (n : ℕ) (r : Refusal) → done (n ∷ []) ≡ toldRefusal r → ⊥
-number-refused n r e =
-    let same : N.Number n ≡ N.Refused r = made-one-to-one (N.Number n) (N.Refused r) e in
+pub done-refused : (vs : List ℕ) (r : Refusal) → done vs ≡ toldRefusal r → ⊥
+done-refused vs r e =
+    let no : accepted (done vs) ≡ false = ap accepted e ∙ refusal-refuses r in
     let z : _≡_ {A = ℕ} 0 1 = cc in
     omega arith
 
 pub counted-one-to-one : (a b : Counted) → toldCounted a ≡ toldCounted b → a ≡ b
 counted-one-to-one (C.Count m) (C.Count n) e = cc
-counted-one-to-one (C.Count m) (C.Refused s) e = absurd (number-refused m s e)
-counted-one-to-one (C.Refused r) (C.Count n) e = absurd (number-refused n r (sym e))
+counted-one-to-one (C.Count m) (C.Refused s) e = absurd (done-refused (m ∷ []) s e)
+counted-one-to-one (C.Refused r) (C.Count n) e = absurd (done-refused (n ∷ []) r (sym e))
 counted-one-to-one (C.Refused r) (C.Refused s) e = ap C.Refused (refusal-one-to-one r s e)
 
 order-back : ℕ → Order
@@ -53,17 +63,23 @@ order-one-to-one = found-once toldOrder order-back order-found
 
 pub compared-one-to-one : (a b : Compared) → toldCompared a ≡ toldCompared b → a ≡ b
 compared-one-to-one (M.Order o) (M.Order p) e = let same : toldOrder o ≡ toldOrder p = cc in ap M.Order (order-one-to-one o p same)
-compared-one-to-one (M.Order o) (M.Refused s) e = absurd (number-refused (toldOrder o) s e)
-compared-one-to-one (M.Refused r) (M.Order p) e = absurd (number-refused (toldOrder p) r (sym e))
+compared-one-to-one (M.Order o) (M.Refused s) e = absurd (done-refused ((toldOrder o) ∷ []) s e)
+compared-one-to-one (M.Refused r) (M.Order p) e = absurd (done-refused ((toldOrder p) ∷ []) r (sym e))
 compared-one-to-one (M.Refused r) (M.Refused s) e = ap M.Refused (refusal-one-to-one r s e)
 
 pub found-one-to-one : (a b : Found) → toldFound a ≡ toldFound b → a ≡ b
 found-one-to-one (F.At m) (F.At n) e = cc
 found-one-to-one (F.At m) F.Absent e = let z : _≡_ {A = ℕ} 0 1 = cc in absurd (omega arith)
-found-one-to-one (F.At m) (F.Refused s) e = absurd (number-refused m s e)
+found-one-to-one (F.At m) (F.Refused s) e = absurd (done-refused (m ∷ []) s e)
 found-one-to-one F.Absent (F.At n) e = let z : _≡_ {A = ℕ} 0 1 = cc in absurd (omega arith)
 found-one-to-one F.Absent F.Absent e = refl
-found-one-to-one F.Absent (F.Refused s) e = absurd (none-refused s e)
-found-one-to-one (F.Refused r) (F.At n) e = absurd (number-refused n r (sym e))
-found-one-to-one (F.Refused r) F.Absent e = absurd (none-refused r (sym e))
+found-one-to-one F.Absent (F.Refused s) e = absurd (done-refused [] s e)
+found-one-to-one (F.Refused r) (F.At n) e = absurd (done-refused (n ∷ []) r (sym e))
+found-one-to-one (F.Refused r) F.Absent e = absurd (done-refused [] r (sym e))
 found-one-to-one (F.Refused r) (F.Refused s) e = ap F.Refused (refusal-one-to-one r s e)
+
+pub placed-one-to-one : (a b : Placed) → toldPlaced a ≡ toldPlaced b → a ≡ b
+placed-one-to-one (P.At k m) (P.At l n) e = cc
+placed-one-to-one (P.At k m) (P.Refused s) e = absurd (done-refused (k ∷ m ∷ []) s e)
+placed-one-to-one (P.Refused r) (P.At l n) e = absurd (done-refused (l ∷ n ∷ []) r (sym e))
+placed-one-to-one (P.Refused r) (P.Refused s) e = ap P.Refused (refusal-one-to-one r s e)

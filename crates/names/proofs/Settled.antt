@@ -5,13 +5,14 @@ use mathlib.Core.Path.{_≡_, sym, _∙_}
 use mathlib.Core.List.{List}
 use denote.Ref.{RefT}
 use Rattle.model.proofs.OneToOne.{reply-one-to-one}
-use Rattle.names.proofs.OneToOne.{counted-one-to-one, order-one-to-one, compared-one-to-one, found-one-to-one}
+use Rattle.names.proofs.OneToOne.{counted-one-to-one, order-one-to-one, compared-one-to-one, found-one-to-one, placed-one-to-one}
 use Rattle.names.proofs.check.Reads as check
 use Rattle.names.proofs.check_name.Reads as check-name
 use Rattle.names.proofs.count.Reads as count
 use Rattle.names.proofs.compare_parts.Reads as compare-parts
 use Rattle.names.proofs.compare.Reads as compare
 use Rattle.names.proofs.find.Reads as find
+use Rattle.names.proofs.place.Reads as place
 use Rattle.names.proofs.show.Reads as show
 
 -- any two results of one call that a contract allows are equal
@@ -35,6 +36,9 @@ compare-settled κs a x y e f p q = compared-one-to-one x y (p ∙ sym q)
 
 pub find-settled : Settles find.Post
 find-settled κs a x y e f p q = found-one-to-one x y (p ∙ sym q)
+
+pub place-settled : Settles place.Post
+place-settled κs a x y e f p q = placed-one-to-one x y (p ∙ sym q)
 
 -- a part that is returned is settled in all that a program sees of it: where it stands, and what it holds. (A reference's
 -- denotation also has a ghost name, which is no value and which each borrow makes anew.)

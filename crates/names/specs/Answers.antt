@@ -12,6 +12,8 @@ use Rattle.names.specs.declared.Compared.{Compared}
 use Rattle.names.specs.declared.Compared.the-variants as M
 use Rattle.names.specs.declared.Found.{Found}
 use Rattle.names.specs.declared.Found.the-variants as F
+use Rattle.names.specs.declared.Placed.{Placed}
+use Rattle.names.specs.declared.Placed.the-variants as P
 
 -- the count of the names
 abbrev pub toldCounted : Counted → Told
@@ -33,3 +35,8 @@ abbrev pub toldFound : Found → Told
 toldFound (F.At n) = done (n ∷ [])
 toldFound F.Absent = done []
 toldFound (F.Refused r) = toldRefusal r
+
+-- the place: the first byte's, and the count of bytes
+abbrev pub toldPlaced : Placed → Told
+toldPlaced (P.At start bytes) = done (start ∷ bytes ∷ [])
+toldPlaced (P.Refused r) = toldRefusal r

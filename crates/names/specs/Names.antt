@@ -150,3 +150,7 @@ showName bs n = cond (accepted (checkName bs n)) (nameOf bs n) []
 -- where in the lent list the part shown starts
 unfoldable pub shownAt : List ℕ → ℕ → ℕ
 shownAt bs n = cond (accepted (checkName bs n)) (nameAt bs n) 0
+
+-- the same for a caller who gets two numbers: where the name starts, and how many bytes it has
+unfoldable pub placeName : List ℕ → ℕ → Told
+placeName bs n = nameCall bs (n ∷ []) (done (nameAt bs n ∷ length (nameOf bs n) ∷ []))

@@ -6,8 +6,8 @@ ghost use mathlib.Core.Path.{_≡_};
 ghost use Prim.Native.Nat.{_+_, _*_, _<_, _≤_};
 ghost use lib.ListN.{length};
 ghost use Rattle.model.specs.Told.{done, toldReply};
-ghost use Rattle.names.specs.Names.{u16At, nameCount, nameOffset, bytesAt, nameAt, headerWhole, firstZero, noneFalls, lastRight, fewNames, noneLong, ascendsAt, ascending, hasBytes, compareNames, nameOf, numberOf, namesRight, checkNames, checkName, countNames, compareAt, findName, showName, shownAt};
-ghost use Rattle.names.specs.Answers.{toldCounted, toldOrder, toldCompared, toldFound};
+ghost use Rattle.names.specs.Names.{u16At, nameCount, nameOffset, bytesAt, nameAt, headerWhole, firstZero, noneFalls, lastRight, fewNames, noneLong, ascendsAt, ascending, hasBytes, compareNames, nameOf, numberOf, namesRight, checkNames, checkName, countNames, compareAt, findName, showName, shownAt, placeName};
+ghost use Rattle.names.specs.Answers.{toldCounted, toldOrder, toldCompared, toldFound, toldPlaced};
 ghost use Rattle.names.specs.Laid.{Laid};
 
 // A list has at most so many names.
@@ -39,6 +39,12 @@ pub enum Compared {
 pub enum Found {
     At(u32),
     Absent,
+    Refused(Refusal),
+}
+
+// Where in its list a name's bytes start, and how many they are.
+pub enum Placed {
+    At { start: u32, bytes: u32 },
     Refused(Refusal),
 }
 
@@ -86,6 +92,7 @@ fn name_at(list: &[u8], i: usize) -> usize
     requires { ⌜ bytesAt (now list) ≤ length (now list) ⌝ }
     requires { ⌜ i ≤ nameCount (now list) ⌝ }
     ensures { λ r. ⌜ r ≡ nameAt (now (list .entry)) i ⌝ }
+    ensures { λ r. ⌜ r < 4 + 3 * 65536 ⌝ }
 {
     bytes_at(list) + offset(list, i)
 }
@@ -327,6 +334,23 @@ pub fn show(list: &[u8], n: u32) -> &[u8]
             &list[a..b]
         }
         Reply::Refused(_) => &list[0..0],
+    }
+}
+
+// Where the part that `show` shows stands: for a caller who cannot be handed a part of the list.
+pub fn place(list: &[u8], n: u32) -> Placed
+    ensures { λ r. ⌜ toldPlaced r ≡ placeName (now (list .entry)) n ⌝ }
+{
+    match check_name(list, n) {
+        Reply::Done => {
+            let a = name_at(list, n as usize);
+            let b = name_at(list, n as usize + 1);
+            Placed::At {
+                start: a as u32,
+                bytes: (b - a) as u32,
+            }
+        }
+        Reply::Refused(r) => Placed::Refused(r),
     }
 }
 

@@ -52,8 +52,8 @@ compare-parts-requires c κs = search needs
 returns : tie.Need-returns
 returns c =
     let s = c .before .before .before .before .before .before .before .before .args in
-    let first = name-part (s .list .now) (s .i) _ _ (c .before .before .before .before .before .before .name-at .ensures) (c .before .before .before .before .before .name-at2 .ensures) in
-    let second = name-part (s .list .now) (s .j) _ _ (c .before .before .before .before .name-at3 .ensures) (c .before .before .before .name-at4 .ensures) in
+    let first = name-part (s .list .now) (s .i) _ _ (c .before .before .before .before .before .before .name-at .ensures .0) (c .before .before .before .before .before .name-at2 .ensures .0) in
+    let second = name-part (s .list .now) (s .j) _ _ (c .before .before .before .before .name-at3 .ensures .0) (c .before .before .before .name-at4 .ensures .0) in
     rw (← first, ← second) (c .compare-parts .ensures)
 
 pub compare-names-spec : {M : Type 1} → statement M

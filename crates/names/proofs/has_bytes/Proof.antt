@@ -40,19 +40,19 @@ enum-told-3 c = search needs
 returns : tie.Need-returns
 returns c =
     let s = c .before .before .before .before .before .before .before .before .args in
-    let name = name-part (s .list .now) (s .i) _ _ (c .before .before .before .before .before .name-at .ensures) (c .before .before .before .before .name-at2 .ensures) in
+    let name = name-part (s .list .now) (s .i) _ _ (c .before .before .before .before .before .name-at .ensures .0) (c .before .before .before .before .name-at2 .ensures .0) in
     rw (← name, ← c .before .before .compare-parts .ensures, c .enum-told .given .1)
 
 returns-2 : tie.Need-returns-2
 returns-2 c =
     let s = c .before .before .before .before .before .before .before .before .args in
-    let name = name-part (s .list .now) (s .i) _ _ (c .before .before .before .before .before .name-at .ensures) (c .before .before .before .before .name-at2 .ensures) in
+    let name = name-part (s .list .now) (s .i) _ _ (c .before .before .before .before .before .name-at .ensures .0) (c .before .before .before .before .name-at2 .ensures .0) in
     rw (← name, ← c .before .before .compare-parts .ensures, c .enum-told2 .given .1)
 
 returns-3 : tie.Need-returns-3
 returns-3 c =
     let s = c .before .before .before .before .before .before .before .before .args in
-    let name = name-part (s .list .now) (s .i) _ _ (c .before .before .before .before .before .name-at .ensures) (c .before .before .before .before .name-at2 .ensures) in
+    let name = name-part (s .list .now) (s .i) _ _ (c .before .before .before .before .before .name-at .ensures .0) (c .before .before .before .before .name-at2 .ensures .0) in
     rw (← name, ← c .before .before .compare-parts .ensures, c .enum-told3 .given .1)
 
 pub has-bytes-spec : {M : Type 1} → statement M

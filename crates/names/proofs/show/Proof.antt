@@ -67,7 +67,7 @@ unfolding showName shownAt
 returns c =
     let s = c .before .before .before .before .before .before .before .args in
     let e : checkName (s .list .now) (s .n) ≡ done [] = sym (c .before .before .before .before .before .check-name .ensures) ∙ ap toldReply (c .before .before .before .enum-told .given .1) in
-    (rw e (name-part (s .list .now) (s .n) _ _ (c .before .before .name-at .ensures) (c .before .name-at2 .ensures)), rw (e, c .before .before .name-at .ensures))
+    (rw e (name-part (s .list .now) (s .n) _ _ (c .before .before .name-at .ensures .0) (c .before .name-at2 .ensures .0)), rw (e, c .before .before .name-at .ensures .0))
 
 returns-2 : tie.Need-returns-2
 unfolding showName shownAt
