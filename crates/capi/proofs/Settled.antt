@@ -37,7 +37,7 @@ use Rattle.capi.proofs.sheafwinch_from_left.Reads as c-from-left
 use Rattle.capi.proofs.sheafwinch_at_once.Reads as c-at-once
 use Rattle.sheafwinch.proofs.Settled.{Settles, SettlesAll}
 pub use Rattle.sheafwinch.proofs.Settled.{start-settled, make-variable-settled, make-primitive-settled, make-list-settled, make-lambda-settled, make-attrset-settled, make-named-settled, make-neg-settled, make-inter-settled, make-union-settled, mark-settled, put-bound-settled, enter-settled, exit-settled, set-level-settled, ask-settled, ask-equal-settled, work-settled, abandon-settled, entry-settled, record-settled, disjoint-settled}
-pub use Rattle.names.proofs.Settled.{check-settled, check-name-settled, count-settled, compare-settled, compare-parts-settled, find-settled, show-settled}
+pub use Rattle.names.proofs.Settled.{check-settled, check-name-settled, count-settled, compare-settled, compare-parts-settled, find-settled, place-settled, show-settled}
 pub use Rattle.operators.proofs.Settled.{resolve-settled, from-left-settled, at-once-settled}
 
 pub c-start-settled : SettlesAll c-start.Post

@@ -96,7 +96,7 @@ fn first_fit(sub: u32, sup: u32, p: u32, q: u32) -> Arm
         Kinds(0..=19, 0..=19) => {
             if p == q {
                 Arm::Nothing
-            } else if q == 7 {
+            } else if q == image::NUMBER {
                 match p {
                     2..=3 => Arm::Nothing,
                     _ => Arm::Mismatch,

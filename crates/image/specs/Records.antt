@@ -4,7 +4,7 @@ use mathlib.Core.List.{List}
 use mathlib.Core.Bool.{Bool, cond}
 use lib.ListN.{getD}
 use lib.Dec.{eqb}
-use Rattle.model.specs.Format.{openFlag, dynamicFlag}
+use Rattle.model.specs.Format.{markFlag, openFlag, dynamicFlag}
 use Rattle.model.specs.declared.Attrset.{Attrset}
 use Rattle.model.specs.declared.Dynamic.{Dynamic}
 use Rattle.model.specs.declared.Dynamic.the-variants.{Absent, Present}
@@ -22,6 +22,9 @@ boundAt bs i = getD bs i (record { variable = 0; side = 0; bound = 0 })
 
 abbrev pub pairAt : List Pair → ℕ → Pair
 pairAt ps i = getD ps i (0 ⊑ 0)
+
+abbrev pub saysMark : ℕ → Bool
+saysMark flags = eqb (flags / markFlag % 2) 1
 
 abbrev pub saysOpen : ℕ → Bool
 saysOpen flags = eqb (flags / openFlag % 2) 1

@@ -12,7 +12,7 @@ ghost use mathlib.Core.Bool.{cond};
 ghost use Prim.Native.Nat.{_+_, _-_, _*_, _≤_, _<_};
 ghost use lib.ListN.{length, set, take, drop, replicate};
 ghost use lib.Seq.{sets};
-ghost use Rattle.model.specs.Format.{wordEnd, formatAt, formatWord, namesAt, functorAt, idle, asked};
+ghost use Rattle.model.specs.Format.{wordEnd, formatAt, formatWord, namesAt, functorAt, idle, asked, entryWidth, fieldWidth, boundWidth, visitedWidth, pendingWidth, equalsWidth};
 ghost use Rattle.model.specs.Lists.{isZero, any, readMany};
 ghost use Rattle.model.specs.Table.{_⊑_, entryAt, isAsked};
 ghost use Rattle.model.specs.Image.{word, count, table, imageLength, pairOf, entryWords, fieldWords, boundWords, pairWords};
@@ -25,7 +25,7 @@ ghost use Rattle.image.specs.Laid.{Laid};
 ghost use Rattle.image.specs.Shown.{Shows, Shown, storeOf, entriesOf, fieldsIn, boundsAll, visitedIn, pendingIn, equalsIn};
 ghost use Rattle.image.specs.Shown.{entriesTo, fieldsTo, boundsTo, visitedTo, pendingTo, equalsTo, brokenTo, levelTo};
 ghost use Rattle.image.specs.Stores.{Room, appended, Last, removed, capacitiesOf, smallOnes, headed};
-ghost use Rattle.image.specs.Records.{entryMade, fieldAt, boundAt, pairAt, saysOpen, saysDynamic, dynamicRead, attrsetRead};
+ghost use Rattle.image.specs.Records.{entryMade, fieldAt, boundAt, pairAt, saysMark, saysOpen, saysDynamic, dynamicRead, attrsetRead};
 
 // How many records each region takes.
 pub struct Capacities {
@@ -165,6 +165,11 @@ pub const VARIABLE_WORD: usize = 0;
 pub const SIDE_WORD: usize = 1;
 
 pub const BOUND_WORD: usize = 2;
+
+// The words of a pair, visited, pending or equal.
+pub const SUB_WORD: usize = 0;
+
+pub const SUP_WORD: usize = 1;
 
 // Kinds.
 pub const VARIABLE: u32 = 0;
@@ -378,7 +383,7 @@ pub fn break_name(image: &[u32]) -> u32
 pub fn entry_word(image: &[u32], i: u32, j: usize) -> u32
     requires { ⌜ Laid (now image) ⌝ }
     requires { ⌜ i < length (entriesOf (now image)) ⌝ }
-    requires { ⌜ j < 7 ⌝ }
+    requires { ⌜ j < entryWidth ⌝ }
     ensures { λ r. ⌜ r ≡ word (entryWords (entryAt (entriesOf (now (image .entry))) i)) j ⌝ }
 {
     image[HEADER_WORDS + ENTRY_WIDTH * wide(i) + j]
@@ -388,7 +393,7 @@ pub fn entry_word(image: &[u32], i: u32, j: usize) -> u32
 pub fn field_word(image: &[u32], i: u32, j: usize) -> u32
     requires { ⌜ Laid (now image) ⌝ }
     requires { ⌜ i < length (fieldsIn (now image)) ⌝ }
-    requires { ⌜ j < 3 ⌝ }
+    requires { ⌜ j < fieldWidth ⌝ }
     ensures { λ r. ⌜ r ≡ word (fieldWords (fieldAt (fieldsIn (now (image .entry))) i)) j ⌝ }
 {
     image[wide(image[FIELDS_OFFSET_AT]) + FIELD_WIDTH * wide(i) + j]
@@ -398,7 +403,7 @@ pub fn field_word(image: &[u32], i: u32, j: usize) -> u32
 pub fn bound_word(image: &[u32], i: u32, j: usize) -> u32
     requires { ⌜ Laid (now image) ⌝ }
     requires { ⌜ i < length (boundsAll (now image)) ⌝ }
-    requires { ⌜ j < 3 ⌝ }
+    requires { ⌜ j < boundWidth ⌝ }
     ensures { λ r. ⌜ r ≡ word (boundWords (boundAt (boundsAll (now (image .entry))) i)) j ⌝ }
 {
     image[wide(image[BOUNDS_OFFSET_AT]) + BOUND_WIDTH * wide(i) + j]
@@ -408,7 +413,7 @@ pub fn bound_word(image: &[u32], i: u32, j: usize) -> u32
 pub fn visited_word(image: &[u32], i: u32, j: usize) -> u32
     requires { ⌜ Laid (now image) ⌝ }
     requires { ⌜ i < length (visitedIn (now image)) ⌝ }
-    requires { ⌜ j < 2 ⌝ }
+    requires { ⌜ j < visitedWidth ⌝ }
     ensures { λ r. ⌜ r ≡ word (pairWords (pairAt (visitedIn (now (image .entry))) i)) j ⌝ }
 {
     image[wide(image[VISITED_OFFSET_AT]) + VISITED_WIDTH * wide(i) + j]
@@ -418,7 +423,7 @@ pub fn visited_word(image: &[u32], i: u32, j: usize) -> u32
 pub fn pending_word(image: &[u32], i: u32, j: usize) -> u32
     requires { ⌜ Laid (now image) ⌝ }
     requires { ⌜ i < length (pendingIn (now image)) ⌝ }
-    requires { ⌜ j < 2 ⌝ }
+    requires { ⌜ j < pendingWidth ⌝ }
     ensures { λ r. ⌜ r ≡ word (pairWords (pairAt (pendingIn (now (image .entry))) i)) j ⌝ }
 {
     image[wide(image[PENDING_OFFSET_AT]) + PENDING_WIDTH * wide(i) + j]
@@ -428,13 +433,19 @@ pub fn pending_word(image: &[u32], i: u32, j: usize) -> u32
 pub fn equal_word(image: &[u32], i: u32, j: usize) -> u32
     requires { ⌜ Laid (now image) ⌝ }
     requires { ⌜ i < length (equalsIn (now image)) ⌝ }
-    requires { ⌜ j < 2 ⌝ }
+    requires { ⌜ j < equalsWidth ⌝ }
     ensures { λ r. ⌜ r ≡ word (pairWords (pairAt (equalsIn (now (image .entry))) i)) j ⌝ }
 {
     image[wide(image[EQUALS_OFFSET_AT]) + EQUALS_WIDTH * wide(i) + j]
 }
 
-// Whether these flags say open, and whether they say that there is a dynamic type.
+// Whether these flags say marked, whether they say open, and whether they say that there is a dynamic type.
+pub fn says_mark(flags: u32) -> bool
+    ensures { λ r. ⌜ r ≡ saysMark flags ⌝ }
+{
+    flags / MARK_FLAG % 2 == 1
+}
+
 pub fn says_open(flags: u32) -> bool
     ensures { λ r. ⌜ r ≡ saysOpen flags ⌝ }
 {
@@ -563,7 +574,7 @@ pub fn pop_entry(image: &mut [u32])
 fn put_entry_word(image: &mut [u32], i: u32, j: usize, v: u32)
     requires { ⌜ Laid (now image) ⌝ }
     requires { ⌜ i < length (entriesOf (now image)) ⌝ }
-    requires { ⌜ j < 7 ⌝ }
+    requires { ⌜ j < entryWidth ⌝ }
     ensures { λ _. ⌜ now (image .exit) ≡ set (now (image .entry)) (27 + 7 * i + j) v ⌝ }
 {
     image[HEADER_WORDS + ENTRY_WIDTH * wide(i) + j] = v;

@@ -343,11 +343,11 @@ pub fn place(list: &[u8], n: u32) -> Placed
 {
     match check_name(list, n) {
         Reply::Done => {
-            let a = name_at(list, n as usize);
-            let b = name_at(list, n as usize + 1);
+            let start = name_at(list, n as usize);
+            let end = name_at(list, n as usize + 1);
             Placed::At {
-                start: a as u32,
-                bytes: (b - a) as u32,
+                start: start as u32,
+                bytes: (end - start) as u32,
             }
         }
         Reply::Refused(r) => Placed::Refused(r),

@@ -1,5 +1,5 @@
 -- Words after several changes, one after the other: the table that they show, and what the next change needs. Assumes nothing.
-use Prim.Native.Nat.{ℕ, _+_, _-_, _≤_, _<_, _/_, _%_}
+use Prim.Native.Nat.{ℕ, _+_, _-_, _≤_, _<_}
 use native.Mathlib.Omega.{arith}
 use mathlib.Core.Path.{_≡_, sym, ap, subst, _∙_}
 use mathlib.Core.List.{List, [], _∷_, _++_, append-nil}
@@ -7,7 +7,7 @@ use mathlib.Core.Bool.{Bool, true, false}
 use lib.ListN.{length, take}
 use lib.Dec.{eqb}
 use borrow.Author.Tests.{eq-eqb, ne-eqb}
-use Rattle.model.specs.Format.{unbroken, variable, markFlag, lower}
+use Rattle.model.specs.Format.{unbroken, variable, lower}
 use Rattle.model.specs.Table.{Bound, Pair, _⊑_, Table, tableOf, entryAt, is, isAt, isBroken, marked, withBounds}
 use Rattle.model.specs.Making.{boundsIn, repeats, addBound, changed, withMark, markEntry}
 use Rattle.model.specs.Rules.{visit, breakOf, fillBreak, passMark}
@@ -15,6 +15,7 @@ use Rattle.model.specs.declared.Failure.{Failure}
 use Rattle.model.specs.declared.Dynamic.{Dynamic}
 use Rattle.model.specs.declared.Dynamic.the-variants.{Absent, Present}
 use Rattle.image.specs.Shown.{Shows, Shown, storeOf, entriesOf, boundsAll, visitedIn, pendingIn, visitedTo, boundsTo, entriesTo, pendingTo, brokenTo}
+use Rattle.image.specs.Records.{saysMark}
 use Rattle.image.proofs.Laying.{seen, shown}
 use Rattle.constrain.specs.Fields.{dynamicPairs}
 use Rattle.step.specs.Taken.{beforeLast}
@@ -71,23 +72,23 @@ module _ (w : List ℕ) (sub sup kind : ℕ) (e : kind ≡ entryAt (entriesOf w)
       let z : eqb (entryAt (entriesOf w) sup .kind) variable ≡ false = ne-eqb (entryAt (entriesOf w) sup .kind) variable (λ (q : entryAt (entriesOf w) sup .kind ≡ variable). let y : ⊥ = omega arith in y) in
       rw z s
 
-  module _ (h : kind ≡ 0) (flags : ℕ) (f : flags ≡ entryAt (entriesOf w) sub .flags) where
+  module _ (h : kind ≡ 0) (flags : ℕ) (f : flags ≡ entryAt (entriesOf w) sub .flags) (says : Bool) (t : says ≡ saysMark flags) where
     is-variable : eqb (entryAt (entriesOf w) sup .kind) variable ≡ true
     is-variable = eq-eqb (entryAt (entriesOf w) sup .kind) variable (omega arith)
 
-    flag : entryAt (entriesOf w) sub .flags / 1 % 2 ≡ flags % 2
-    flag = let z : entryAt (entriesOf w) sub .flags / 1 ≡ flags = omega arith in rw z
+    told : saysMark (entryAt (entriesOf w) sub .flags) ≡ says
+    told = ap saysMark (sym f) ∙ sym t
 
-    pub mark-none : (flags % 2 ≡ 1 → ⊥) → Shown w → Shows w (tableOf (passMark sub sup (storeOf w)) (pendingIn w))
+    pub mark-none : says ≡ false → Shown w → Shows w (tableOf (passMark sub sup (storeOf w)) (pendingIn w))
     unfolding passMark isAt is marked
     mark-none n s =
-        let z : eqb (entryAt (entriesOf w) sub .flags / markFlag % 2) 1 ≡ false = ne-eqb (entryAt (entriesOf w) sub .flags / markFlag % 2) 1 (λ (q : entryAt (entriesOf w) sub .flags / 1 % 2 ≡ 1). n (sym flag ∙ q)) in
+        let z : saysMark (entryAt (entriesOf w) sub .flags) ≡ false = told ∙ n in
         rw (is-variable, z) s
 
-    pub mark-passed : flags % 2 ≡ 1 → (u : List ℕ) → Shows u (entriesTo w (changed withMark (entriesOf w) sup)) → Shows u (tableOf (passMark sub sup (storeOf w)) (pendingIn w))
+    pub mark-passed : says ≡ true → (u : List ℕ) → Shows u (entriesTo w (changed withMark (entriesOf w) sup)) → Shows u (tableOf (passMark sub sup (storeOf w)) (pendingIn w))
     unfolding passMark isAt is marked markEntry
     mark-passed m u su =
-        let z : eqb (entryAt (entriesOf w) sub .flags / markFlag % 2) 1 ≡ true = eq-eqb (entryAt (entriesOf w) sub .flags / markFlag % 2) 1 (flag ∙ m) in
+        let z : saysMark (entryAt (entriesOf w) sub .flags) ≡ true = told ∙ m in
         rw (is-variable, z) su
 
 -- a pair put by the side of a bound

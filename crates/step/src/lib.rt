@@ -331,7 +331,7 @@ fn pass_mark(image: &mut [u32], sub: u32, sup: u32)
     if image::entry_word(image, sup, image::KIND_WORD) != image::VARIABLE {
         return;
     }
-    if image::entry_word(image, sub, image::FLAGS_WORD) % 2 == 1 {
+    if image::says_mark(image::entry_word(image, sub, image::FLAGS_WORD)) {
         image::put_mark(image, sup);
     }
 }
@@ -439,8 +439,8 @@ pub fn take_step(image: &mut [u32]) -> Step
     ensures { λ _. ⌜ now (image .exit) ≡ taken (now (image .entry)) (rule (storeOf (now (image .entry))) (lastPair (now (image .entry)))) .words ⌝ }
 {
     let last = image::pending_count(image) - 1;
-    let sub = image::pending_word(image, last, 0);
-    let sup = image::pending_word(image, last, 1);
+    let sub = image::pending_word(image, last, image::SUB_WORD);
+    let sup = image::pending_word(image, last, image::SUP_WORD);
     if sub == sup {
         image::pop_pending(image);
         return Step::Went;

@@ -23,6 +23,9 @@ entry-word-requires-2 c κs =
     let p = c .before .before .before .before .before .pre in
     (shown-laid (p .0), (p .1 .0, omega arith))
 
+says-mark-requires : tie.Need-says-mark-requires
+says-mark-requires c κs = search needs
+
 put-mark-requires : tie.Need-put-mark-requires
 put-mark-requires c κs = search needs
 
@@ -31,14 +34,14 @@ same-length-2 c = search needs
 
 returns-2 : tie.Need-returns-2
 returns-2 c =
-    mark-passed _ _ _ _ (c .before .before .before .before .before .before .before .before .entry-word .ensures) (omega (arith, c .before .before .before .before .before .before .before .if1 .left)) _ (c .before .before .before .before .before .entry-word2 .ensures) (omega (arith, c .before .before .before .before .if2 .taken)) _ (c .before .before .put-mark .ensures)
+    mark-passed _ _ _ _ (c .before .before .before .before .before .before .before .before .before .entry-word .ensures) (omega (arith, c .before .before .before .before .before .before .before .before .if1 .left)) _ (c .before .before .before .before .before .before .entry-word2 .ensures) _ (c .before .before .before .before .before .says-mark .ensures) (c .before .before .before .before .if2 .taken) _ (c .before .before .put-mark .ensures)
 
 same-length-3 : tie.Need-same-length-3
 same-length-3 c = search needs
 
 returns-3 : tie.Need-returns-3
 returns-3 c =
-    mark-none _ _ _ _ (c .before .before .before .before .entry-word .ensures) (omega (arith, c .before .before .before .if1 .left)) _ (c .before .entry-word2 .ensures) (λ q. omega (arith, c .if2 .left, q)) (c .before .before .before .before .before .before .before .pre .0)
+    mark-none _ _ _ _ (c .before .before .before .before .before .entry-word .ensures) (omega (arith, c .before .before .before .before .if1 .left)) _ (c .before .before .entry-word2 .ensures) _ (c .before .says-mark .ensures) (c .if2 .left) (c .before .before .before .before .before .before .before .before .pre .0)
 
 pub pass-mark-spec : {M : Type 1} → statement M
 pass-mark-spec =
@@ -48,6 +51,7 @@ pass-mark-spec =
     same-length
     returns
     entry-word-requires-2
+    says-mark-requires
     put-mark-requires
     same-length-2
     returns-2
