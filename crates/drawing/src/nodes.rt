@@ -96,7 +96,7 @@ fn print_look(image: &[u32], n: u32, e: Entry) {
         print(b", peripheries=2");
     }
     if header::is_broken_at(image, n) {
-        print(b", color=\"#c00000\", penwidth=2");
+        print(b", color=\"#c00000\", fontcolor=\"#c00000\", penwidth=2");
     }
 }
 
