@@ -49,7 +49,7 @@ pub fn word(image: &[u32], at: usize) -> u32 {
     if at < image.len() { image[at] } else { 0 }
 }
 
-// Whether the image is well formed: no read is refused for it.
+// Whether the image is well formed: the read of its first entry is not refused for that.
 pub fn is_table(image: &[u32]) -> bool {
     match sheafwinch::record(image, 1, 0) {
         Record::Refused(r) => is_number(r),
