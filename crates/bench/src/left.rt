@@ -6,13 +6,6 @@ use telling::print;
 use telling::print_number;
 use telling::print_pair;
 
-// Regions.
-const ENTRIES: u32 = image::ENTRIES;
-
-pub const BOUNDS: u32 = image::BOUNDS;
-
-const VISITED: u32 = image::VISITED;
-
 // How many entries the table has before a question.
 const TABLE: u32 = 15;
 
@@ -21,15 +14,15 @@ const MOST: u32 = 40;
 
 // All of it, on a line of its own.
 pub fn print_left(words: &[u32]) {
-    let entries = count(words, ENTRIES);
+    let entries = count(words, image::ENTRIES);
     print(b"\n    ");
     print_number(entries);
     print(b" entries");
     print_made(words, entries);
     print(b"; bounds");
-    print_records(words, BOUNDS);
+    print_records(words, image::BOUNDS);
     print(b"; visited");
-    print_records(words, VISITED);
+    print_records(words, image::VISITED);
     print(b"\n");
 }
 

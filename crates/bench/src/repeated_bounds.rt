@@ -1,5 +1,4 @@
 // The lower bounds of a variable, put again: one that is there adds nothing while there are at most 32, and is added where there are more.
-use crate::left::BOUNDS;
 use crate::left::count;
 use telling::print;
 use telling::print_number;
@@ -15,7 +14,7 @@ pub fn print_counts() {
     make_entries(&mut words);
     put_bounds(&mut words);
     print(b"Lower bounds 1 to 32 put: ");
-    print_number(count(&words, BOUNDS));
+    print_number(count(&words, image::BOUNDS));
     print(b" bounds");
     print_put(&mut words, 5);
     print_put(&mut words, 33);
@@ -68,5 +67,5 @@ fn print_put(words: &mut [u32], bound: u32) {
     print(b"; then ");
     print_number(bound);
     print(b": ");
-    print_number(count(words, BOUNDS));
+    print_number(count(words, image::BOUNDS));
 }

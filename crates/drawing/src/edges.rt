@@ -10,16 +10,6 @@ use model::Record;
 use telling::print;
 use telling::print_number;
 
-// Regions.
-const FIELDS: u32 = 2;
-
-const BOUNDS: u32 = 3;
-
-const EQUALS: u32 = 6;
-
-// The lower side.
-const LOWER: u32 = 0;
-
 // The components of entry n.
 pub fn draw_components(list: &[u8], image: &[u32], n: u32, e: Entry) {
     match e {
@@ -78,7 +68,7 @@ fn draw_fields(list: &[u8], image: &[u32], owner: u32, a: Attrset) {
 
 // A field record.
 fn draw_field(list: &[u8], image: &[u32], owner: u32, n: u32) {
-    match sheafwinch::record(image, FIELDS, n) {
+    match sheafwinch::record(image, image::FIELDS, n) {
         Record::Field {
             name,
             entry,
@@ -92,7 +82,7 @@ fn draw_field(list: &[u8], image: &[u32], owner: u32, n: u32) {
 fn draw_named(list: &[u8], owner: u32, name: u32, entry: u32, optional: u32) {
     begin(owner, entry);
     print_name(list, name);
-    if optional == 1 {
+    if optional == image::OPTIONAL {
         print(b"?\", arrowhead=empty];\n");
     } else {
         print(b"\"];\n");
@@ -107,8 +97,8 @@ fn draw_dynamic(owner: u32, dynamic: u32) {
 
 // Each bound, and each pair asked equal.
 pub fn draw_pairs(image: &[u32]) {
-    draw_region(image, BOUNDS, word(image, header::BOUNDS));
-    draw_region(image, EQUALS, word(image, header::EQUALS));
+    draw_region(image, image::BOUNDS, word(image, image::BOUNDS_COUNT_AT));
+    draw_region(image, image::EQUALS, word(image, image::EQUALS_COUNT_AT));
 }
 
 // A region's records, so many.
@@ -135,7 +125,7 @@ fn draw_record(image: &[u32], region: u32, n: u32) {
 
 // A bound, from what is below to what is above.
 fn draw_bound(variable: u32, side: u32, bound: u32) {
-    if side == LOWER {
+    if side == image::LOWER {
         begin(bound, variable);
         print(b"lower");
     } else {
@@ -154,7 +144,7 @@ fn draw_equal(left: u32, right: u32) {
 // The pair that failed, where one has.
 pub fn draw_break(list: &[u8], image: &[u32]) {
     let b = header::broken(image);
-    if b.kind != 0 {
+    if b.kind != image::UNBROKEN {
         draw_failed(list, b);
     }
 }

@@ -11,7 +11,7 @@ use telling::print;
 // Draws the table in the image: a graph of every entry, component, bound and equal pair, or one that says that it is no table.
 pub fn draw(list: &[u8], image: &[u32]) {
     print(b"digraph table {\n");
-    if header::is_table(image) {
+    if formed::check(image) {
         draw_named(list, image);
     } else {
         print(b"  label=\"BAD TABLE: the image is not well formed\";\n");

@@ -9,12 +9,9 @@ use model::Record;
 use telling::print;
 use telling::print_number;
 
-// The region of the entries.
-const ENTRIES: u32 = 1;
-
 // Each entry.
 pub fn draw_entries(list: &[u8], image: &[u32]) {
-    let count = word(image, header::ENTRIES);
+    let count = word(image, image::ENTRIES_COUNT_AT);
     let mut n: u32 = 0;
     while n < count {
         draw_entry(list, image, n);
@@ -108,10 +105,10 @@ fn is_variable(e: Entry) -> bool {
     }
 }
 
-// Whether an entry has the default mark: the flags are odd.
+// Whether an entry has the default mark.
 fn is_marked(image: &[u32], n: u32) -> bool {
-    match sheafwinch::record(image, ENTRIES, n) {
-        Record::Entry { flags, .. } => flags % 2 == 1,
+    match sheafwinch::record(image, image::ENTRIES, n) {
+        Record::Entry { flags, .. } => image::says_mark(flags),
         _ => false,
     }
 }

@@ -28,9 +28,6 @@ pub const STRING_PRIMITIVE: u32 = 4;
 
 const NUMBER_PRIMITIVE: u32 = 7;
 
-// The region of the fields.
-const FIELDS: u32 = 2;
-
 // The words of an image for a contact, before it is started.
 pub fn room() -> [u32; 883]
     ensures { λ r. ⌜ 883 ≡ length r ⌝ }
@@ -117,7 +114,7 @@ fn print_fields(words: &[u32], a: Attrset) {
 
 // A field record.
 fn print_field(words: &[u32], n: u32) {
-    match sheafwinch::record(words, FIELDS, n) {
+    match sheafwinch::record(words, image::FIELDS, n) {
         Record::Field { name, entry, .. } => print_named(words, name, entry),
         _ => print(b"ANOTHER RECORD"),
     }

@@ -1,6 +1,5 @@
 // The lines that show the Rust's table: the image is held to them by reads.
 use crate::rules;
-use crate::tables;
 use crate::tables::word;
 use crate::tally;
 use crate::tally::BOUND_LINES;
@@ -14,22 +13,15 @@ use crate::tally::VISITED_LINES;
 use crate::tally::add;
 use crate::tally::expect;
 use crate::tally::refuse;
+use image::ATTRSET;
+use image::BOUNDS;
+use image::ENTRIES;
+use image::EQUALS;
+use image::FIELDS;
+use image::VISITED;
 use model::Record;
 
-// Regions.
-const ENTRIES: u32 = 1;
-
-const FIELDS: u32 = 2;
-
-const BOUNDS: u32 = 3;
-
-const VISITED: u32 = 4;
-
-const EQUALS: u32 = 6;
-
-// The kind of an attrset, and of no entry.
-const ATTRSET: u32 = 4;
-
+// The kind of no entry.
 const NO_ENTRY: u32 = 99;
 
 // As many bounds as the image takes.
@@ -126,13 +118,23 @@ fn counts(words: &[u32], tally: &mut [u32; 96], line: &[u32; 32]) {
 
 // Holds three counts to the Rust's.
 fn counted(words: &[u32], tally: &mut [u32; 96], entries: u32, bounds: u32, visited: u32) {
-    expect(tally, b"entries", entries, word(words, tables::ENTRIES));
-    expect(tally, b"bounds", bounds, word(words, tables::BOUNDS));
+    expect(
+        tally,
+        b"entries",
+        entries,
+        word(words, image::ENTRIES_COUNT_AT),
+    );
+    expect(
+        tally,
+        b"bounds",
+        bounds,
+        word(words, image::BOUNDS_COUNT_AT),
+    );
     expect(
         tally,
         b"visited pairs",
         visited,
-        word(words, tables::VISITED),
+        word(words, image::VISITED_COUNT_AT),
     );
 }
 
@@ -157,8 +159,13 @@ fn level(words: &[u32], tally: &mut [u32; 96], line: &[u32; 32]) {
     tally[VISITED_LINES] = 0;
     tally[EQUAL_LINES] = 0;
     tally[BOUND_NEXT] = 0;
-    expect(tally, b"level", line[0], word(words, tables::LEVEL));
-    expect(tally, b"entries", line[1], word(words, tables::ENTRIES));
+    expect(tally, b"level", line[0], word(words, image::LEVEL_AT));
+    expect(
+        tally,
+        b"entries",
+        line[1],
+        word(words, image::ENTRIES_COUNT_AT),
+    );
 }
 
 // An entry: flags, negation, kind, x, y, z; of an attrset x is left open, and its fields follow.
@@ -290,13 +297,23 @@ fn end(words: &[u32], tally: &mut [u32; 96]) {
     let visited = tally[VISITED_LINES];
     counted(words, tally, entries, bounds, visited);
     let equals = tally[EQUAL_LINES];
-    expect(tally, b"equal pairs", equals, word(words, tables::EQUALS));
-    expect(tally, b"pending pairs", 0, word(words, tables::PENDING));
+    expect(
+        tally,
+        b"equal pairs",
+        equals,
+        word(words, image::EQUALS_COUNT_AT),
+    );
+    expect(
+        tally,
+        b"pending pairs",
+        0,
+        word(words, image::PENDING_COUNT_AT),
+    );
     add_records(words, tally);
 }
 
 // Counts the records of all scripts.
 fn add_records(words: &[u32], tally: &mut [u32; 96]) {
-    add(tally, tally::BOUNDS, word(words, tables::BOUNDS));
-    add(tally, tally::VISITED, word(words, tables::VISITED));
+    add(tally, tally::BOUNDS, word(words, image::BOUNDS_COUNT_AT));
+    add(tally, tally::VISITED, word(words, image::VISITED_COUNT_AT));
 }

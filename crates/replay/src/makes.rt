@@ -1,7 +1,6 @@
 // The lines that make an entry, or put a mark, a bound or a level.
 use crate::compared::done;
 use crate::dumped::read_entry;
-use crate::tables;
 use crate::tables::word;
 use crate::tally::BOUNDS_PUT;
 use crate::tally::MARKS_PUT;
@@ -74,11 +73,11 @@ fn mark(words: &mut [u32], tally: &mut [u32; 96], n: u32) {
 
 // Puts a bound, and counts it if it is new.
 fn put_bound(words: &mut [u32], tally: &mut [u32; 96], line: &[u32; 32]) {
-    let before = word(words, tables::BOUNDS);
+    let before = word(words, image::BOUNDS_COUNT_AT);
     done(
         tally,
         sheafwinch::put_bound(words, line[0], line[1], line[2]),
     );
-    let after = word(words, tables::BOUNDS);
+    let after = word(words, image::BOUNDS_COUNT_AT);
     add(tally, BOUNDS_PUT, std::num::wrapping_sub_u32(after, before));
 }

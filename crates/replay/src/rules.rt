@@ -5,34 +5,18 @@ use crate::dumped::read_entry;
 use crate::dumped::read_record;
 use crate::tables::word;
 use crate::tally::add;
+use image::ATTRSET;
+use image::FIELDS;
+use image::FLOAT;
+use image::INT;
+use image::INTER;
+use image::LAMBDA;
+use image::NAMED;
+use image::NEG;
+use image::NUMBER;
+use image::UNION;
+use image::VARIABLE;
 use model::Disjointness;
-
-// Kinds.
-const VARIABLE: u32 = 0;
-
-const LAMBDA: u32 = 3;
-
-const ATTRSET: u32 = 4;
-
-const NAMED: u32 = 5;
-
-const NEG: u32 = 6;
-
-const INTER: u32 = 7;
-
-const UNION: u32 = 8;
-
-// Primitives.
-const INT: u32 = 2;
-
-const FLOAT: u32 = 3;
-
-const NUMBER: u32 = 7;
-
-// The region of field records, and where the header has the functor word.
-const FIELDS: u32 = 2;
-
-const FUNCTOR: usize = 8;
 
 // What is looked for through components: a variable, an entry that is disjoint from another, a member; and how deep.
 const FOR_VARIABLE: u32 = 0;
@@ -414,7 +398,7 @@ fn is_functor(words: &[u32], a: Node, b: Node) -> bool {
     if b.kind != LAMBDA {
         return false;
     }
-    let functor = word(words, FUNCTOR);
+    let functor = word(words, image::FUNCTOR_AT);
     if functor == 0 {
         return false;
     }
@@ -459,10 +443,10 @@ fn field_met(words: &[u32], a: Node, n: u32) -> usize {
     if has_dynamic(a.flags) {
         return FIELD_DYNAMIC;
     }
-    if a.flags / 2 % 2 == 1 {
+    if image::says_open(a.flags) {
         return FIELD_OPEN;
     }
-    if field.c == 1 {
+    if field.c == image::OPTIONAL {
         FIELD_OPTIONAL
     } else {
         FIELD_MISSING

@@ -1,19 +1,6 @@
-// The image that every script is run in, and its header's words.
+// The image that every script is run in.
 ghost use mathlib.Core.Path.{_≡_};
 ghost use lib.ListN.{length};
-
-// Where the header has the level, and the counts of the regions.
-pub const LEVEL: usize = 6;
-
-pub const ENTRIES: usize = 11;
-
-pub const BOUNDS: usize = 17;
-
-pub const VISITED: usize = 20;
-
-pub const PENDING: usize = 23;
-
-pub const EQUALS: usize = 26;
 
 // The words, before a script starts.
 pub fn room() -> [u32; 3243]

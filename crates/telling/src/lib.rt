@@ -9,9 +9,6 @@ use model::Reply;
 // A budget that no question here uses up.
 pub const ALL: u32 = 4294967295;
 
-// The break kind of a missing field.
-const MISSING_FIELD: u32 = 2;
-
 // Writes all of s.
 pub fn print(s: &[u8]) {
     io::write_all(STDOUT_FILENO, s);
@@ -136,7 +133,7 @@ fn print_broken(list: &[u8], kind: u32, sub: u32, sup: u32, name: u32) {
     print(b"8 BROKEN, kind ");
     print_number(kind);
     print(b", ");
-    if kind == MISSING_FIELD {
+    if kind == image::FIELD_MISSING {
         print_missing(list, sub, sup, name);
     } else {
         print_mismatch(sub, sup);
