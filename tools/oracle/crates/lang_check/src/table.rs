@@ -195,23 +195,23 @@ impl Table {
     }
 
     /// The lower bounds of an entry, in order; a concrete one has none.
-    pub fn lower(&self, n: u32) -> impl ExactSizeIterator<Item = u32> + '_ {
+    pub fn lower(&self, n: u32) -> impl ExactSizeIterator<Item = u32> + Clone + '_ {
         let bounds = self.0.types.storage.get_var(TyId(n)).map_or(&[][..], |v| &v.lower_bounds);
         bounds.iter().map(|b| b.0)
     }
 
     /// The upper ones.
-    pub fn upper(&self, n: u32) -> impl ExactSizeIterator<Item = u32> + '_ {
+    pub fn upper(&self, n: u32) -> impl ExactSizeIterator<Item = u32> + Clone + '_ {
         let bounds = self.0.types.storage.get_var(TyId(n)).map_or(&[][..], |v| &v.upper_bounds);
         bounds.iter().map(|b| b.0)
     }
 
     /// In the order of the visits.
-    pub fn visited(&self) -> impl ExactSizeIterator<Item = (u32, u32)> + DoubleEndedIterator + '_ {
+    pub fn visited(&self) -> impl ExactSizeIterator<Item = (u32, u32)> + DoubleEndedIterator + Clone + '_ {
         self.0.types.constrain_cache.iter().map(|(a, b)| (a.0, b.0))
     }
 
-    pub fn equals(&self) -> impl ExactSizeIterator<Item = (u32, u32)> + '_ {
+    pub fn equals(&self) -> impl ExactSizeIterator<Item = (u32, u32)> + Clone + '_ {
         self.0.types.storage.equiv_pairs.iter().map(|(a, b)| (a.0, b.0))
     }
 }

@@ -1,0 +1,41 @@
+//! The smallest script that still fails, as far as leaving out one thing at a time leads to it.
+
+use crate::compare::Difference;
+use crate::family::ROOMY;
+use crate::script::Script;
+use crate::session::{replay, Fault, Replay};
+
+/// A script that differs at its last line, with what each side says there, and how many entries there are before each line.
+pub struct Failing {
+    pub script: Script,
+    pub difference: Box<Difference>,
+    counts: Vec<u32>,
+}
+
+impl Failing {
+    /// The script up to the line that differs, if one does.
+    pub fn of(mut script: Script) -> Option<Failing> {
+        let Replay { counts, fault } = replay(&script);
+        match fault {
+            Some(Fault::Differs(difference)) => {
+                script.lines.truncate(counts.len() - 1);
+                Some(Failing { script, difference, counts })
+            }
+            _ => None,
+        }
+    }
+
+    pub fn shrunk(mut self) -> Failing {
+        while let Some(smaller) = self.smaller() {
+            self = smaller;
+        }
+        self
+    }
+
+    /// One that still fails with a line less, the last first; or with a line that says less.
+    fn smaller(&self) -> Option<Failing> {
+        let lines = (0..self.script.lines.len()).rev();
+        let shorter = lines.filter_map(|line| self.script.without(line, &self.counts)).find_map(Failing::of);
+        shorter.or_else(|| self.script.simpler(ROOMY).into_iter().find_map(Failing::of))
+    }
+}
