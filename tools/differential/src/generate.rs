@@ -11,10 +11,12 @@ use sheafwinch::{Field, Side};
 /// Writes the script of a seed with this number, and runs it. It is whole where it ran to the end, else its last line has the fault.
 pub fn write(seed: u64, number: u64, tally: &mut Tally) -> (Script, Ran) {
     let mut numbers = Numbers::new(seed, number);
-    let (family, names, room) = (Family::draw(&mut numbers), family::names(&mut numbers), family::room(&mut numbers));
+    let family = Family::draw(&mut numbers);
+    let (names, palette) = (family::names(&mut numbers), family::palette(&mut numbers));
+    let room = family::room(family, &mut numbers);
     tally.scripts[family as usize] += 1;
     let session = Session::start(names, room, tally);
-    let mut writer = Writer { numbers, family, names, session, lines: Vec::new(), asked: Vec::new(), twins: Vec::new() };
+    let mut writer = Writer { numbers, family, names, palette, session, lines: Vec::new(), asked: Vec::new(), twins: Vec::new() };
     let ran = writer.write().and_then(|()| writer.session.end());
     (Script { names, room, lines: writer.lines }, ran)
 }
@@ -23,6 +25,7 @@ struct Writer<'a> {
     numbers: Numbers,
     family: Family,
     names: Names,
+    palette: &'static [u32],
     session: Session<'a>,
     lines: Vec<Line>,
     asked: Vec<(u32, u32)>,
@@ -40,6 +43,7 @@ impl Writer<'_> {
             Family::Chains => self.chain()?,
             Family::Bounds => return self.many_bounds(),
             Family::Deep => self.deep()?,
+            Family::Long => return self.long(),
             _ => self.basics()?,
         }
         for _ in 0..self.numbers.between(3, 11) {
@@ -139,8 +143,7 @@ impl Writer<'_> {
     }
 
     fn primitive(&mut self) -> Ran {
-        let which =
-            if self.numbers.chance(12) { self.numbers.choice(&[0, 1, 5, 6]) } else { self.numbers.choice(&[2, 2, 3, 3, 4, 7, 7]) };
+        let which = self.numbers.choice(self.palette);
         self.say_make(Make::Primitive(which))
     }
 
@@ -168,6 +171,27 @@ impl Writer<'_> {
             } else {
                 self.say(Line::Bound { variable: right, side: Side::Lower, bound: left })?;
             }
+        }
+        Ok(())
+    }
+
+    /// Many variables, each under the next, and what comes into the first and out of the last, in any order.
+    fn long(&mut self) -> Ran {
+        self.basics()?;
+        for _ in 0..self.numbers.between(8, 20) {
+            self.make()?;
+        }
+        let first = self.count();
+        let variables = self.numbers.between(10, 30);
+        for _ in 0..variables {
+            self.say_make(Make::Variable)?;
+        }
+        let last = first + variables - 1;
+        for _ in 0..2 * variables {
+            let other = self.numbers.below(first);
+            let v = self.numbers.between(first, last - 1);
+            let (left, right) = self.numbers.choice(&[(v, v + 1), (v, v + 1), (v, v + 1), (other, first), (last, other)]);
+            self.ask(left, right)?;
         }
         Ok(())
     }
@@ -323,7 +347,7 @@ impl Writer<'_> {
                 self.say(Line::Level(level))
             }
             10 => {
-                let (variable, level) = (self.of(&[VARIABLE]), self.numbers.below(5));
+                let (variable, level) = (self.of(&[VARIABLE]), self.numbers.choice(&[0, 1, 2, 3, u32::MAX]));
                 self.say(Line::SetLevel { variable, level })
             }
             11..=14 => {
@@ -373,9 +397,10 @@ impl Writer<'_> {
 
     /// A question, with a limit, since the Rust need not end.
     fn ask(&mut self, left: u32, right: u32) -> Ran {
-        let limit = if self.numbers.chance(25) { self.numbers.below(9) } else { self.numbers.choice(&[60, 60, 300]) };
+        let most = if self.family == Family::Long { 4000 } else { self.numbers.choice(&[60, 60, 300]) };
+        let limit = if self.numbers.chance(25) { self.numbers.below(9) } else { most };
         let instalments = if self.numbers.chance(50) { self.numbers.between(1, 4) } else { 0 };
-        let budgets = (0..instalments).map(|_| self.numbers.choice(&[0, 1, 1, 1, 2, 3, 5])).collect();
+        let budgets = (0..instalments).map(|_| self.numbers.choice(&[0, 1, 1, 1, 2, 3, 5, 40])).collect();
         let (equal, held, pauses) = (self.numbers.chance(8), self.numbers.chance(10), self.numbers.chance(25));
         self.asked.push((left, right));
         self.say(Line::Ask(Question { left, right, equal, held, limit, budgets, pauses }))

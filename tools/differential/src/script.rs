@@ -98,27 +98,49 @@ impl Line {
         fits
     }
 
-    /// The line with entries from `end` on renumbered as if those from `start` to `end` were not there; none where it refers to one of
-    /// those.
-    fn without(mut self, start: u32, end: u32) -> Option<Line> {
-        let mut refers = false;
-        self.each(&mut |e| {
-            if *e >= end {
-                *e -= end - start;
-            } else if *e >= start {
-                refers = true;
-            }
+    /// The line with its entries renumbered; none where it names one that has no number now.
+    fn renumbered(mut self, numbers: &[Option<u32>]) -> Option<Line> {
+        let mut fits = true;
+        self.each(&mut |e| match numbers[*e as usize] {
+            Some(number) => *e = number,
+            None => fits = false,
         });
-        (!refers).then_some(self)
+        fits.then_some(self)
     }
 
-    /// The lines that say less than it, the shortest first.
+    /// The lines that say less than it, or name lower entries.
     fn simpler(&self) -> Vec<Line> {
-        match self {
-            Line::Make(Make::Attrset { open, dynamic, fields }) => simpler_attrsets(*open, *dynamic, fields),
+        let mut found = match self {
+            Line::Make(Make::Variable | Make::Primitive(_)) => Vec::new(),
+            Line::Make(_) => vec![Line::Make(Make::Variable), Line::Make(Make::Primitive(0))],
             Line::Ask(question) => question.simpler().into_iter().map(Line::Ask).collect(),
             _ => Vec::new(),
+        };
+        if let Line::Make(Make::Attrset { open, dynamic, fields }) = self {
+            found.extend(simpler_attrsets(*open, *dynamic, fields));
         }
+        found.extend(self.lower());
+        found
+    }
+
+    /// The line with one of its entries a lower one, of the first few.
+    fn lower(&self) -> Vec<Line> {
+        let mut entries = Vec::new();
+        self.clone().each(&mut |e| entries.push(*e));
+        let mut found = Vec::new();
+        for (place, &entry) in entries.iter().enumerate() {
+            for lower in 0..entry.min(4) {
+                let mut line = self.clone();
+                let mut at = 0..;
+                line.each(&mut |e| {
+                    if at.next() == Some(place) {
+                        *e = lower;
+                    }
+                });
+                found.push(line);
+            }
+        }
+        found
     }
 }
 
@@ -167,14 +189,21 @@ impl Question {
 }
 
 impl Script {
-    /// The script without a line, later entries renumbered, where no later line refers to what it made. `counts` has how many entries
-    /// there are before each line and after the last.
-    pub fn without(&self, line: usize, counts: &[u32]) -> Option<Script> {
-        let mut lines = self.lines[..line].to_vec();
-        for later in &self.lines[line + 1..] {
-            lines.push(later.clone().without(counts[line], counts[line + 1])?);
+    /// The script without a line and what needs it, the other entries renumbered. `counts` has how many entries there are before each
+    /// line and after the last.
+    pub fn without(&self, line: usize, counts: &[u32]) -> Script {
+        let mut numbers = Vec::new();
+        let mut lines = Vec::new();
+        let mut next = 0;
+        for (i, kept) in self.lines.iter().enumerate() {
+            let kept = if i == line { None } else { kept.clone().renumbered(&numbers) };
+            for _ in counts[i]..counts[i + 1] {
+                numbers.push(kept.as_ref().map(|_| next));
+                next += u32::from(kept.is_some());
+            }
+            lines.extend(kept);
         }
-        Some(Script { lines, ..*self })
+        Script { lines, ..*self }
     }
 
     /// The scripts that say less in one line, or give more room.

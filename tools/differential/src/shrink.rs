@@ -32,10 +32,10 @@ impl Failing {
         self
     }
 
-    /// One that still fails with a line less, the last first; or with a line that says less.
+    /// One that still fails with fewer lines, the last tried first; or with a line that says less.
     fn smaller(&self) -> Option<Failing> {
         let lines = (0..self.script.lines.len()).rev();
-        let shorter = lines.filter_map(|line| self.script.without(line, &self.counts)).find_map(Failing::of);
+        let shorter = lines.map(|line| self.script.without(line, &self.counts)).find_map(Failing::of);
         shorter.or_else(|| self.script.simpler(ROOMY).into_iter().find_map(Failing::of))
     }
 }
