@@ -66,7 +66,7 @@ impl Writer<'_> {
             self.mark()?;
         }
         for _ in 0..self.numbers.between(6, 16) {
-            let (left, right) = self.pair();
+            let (left, right) = self.fresh_pair();
             self.ask(left, right)?;
             self.between()?;
         }
@@ -360,7 +360,21 @@ impl Writer<'_> {
         }
     }
 
-    /// Two entries to ask about, drawn by rule, so that the rare ones are reached too.
+    /// Two entries to ask about, most often ones that no step has come by and that are not trivially unlike.
+    fn fresh_pair(&mut self) -> (u32, u32) {
+        let mut pair = self.pair();
+        for _ in 0..2 {
+            let image = self.session.image();
+            let (a, b) = (image.entry(pair.0).kind, image.entry(pair.1).kind);
+            let unlike = a != b && matches!((a, b), (PRIMITIVE | LIST | LAMBDA, PRIMITIVE..=ATTRSET));
+            if unlike || image.visited().contains(&[pair.0, pair.1]) {
+                pair = self.pair();
+            }
+        }
+        pair
+    }
+
+    /// Two entries, drawn by rule, so that the rare ones are reached too.
     fn pair(&mut self) -> (u32, u32) {
         match self.numbers.below(40) {
             0 if !self.asked.is_empty() => self.numbers.choice(&self.asked),
@@ -391,7 +405,11 @@ impl Writer<'_> {
                     (b, a)
                 }
             }
-            _ => (self.some(), self.some()),
+            _ => {
+                let n = self.some();
+                let kind = self.entry(n).kind;
+                (n, if self.numbers.chance(50) { self.of(&[kind]) } else { self.some() })
+            }
         }
     }
 

@@ -295,6 +295,7 @@ impl<'a> Session<'a> {
         let tally = &mut *self.tally;
         tally.answer(answer);
         tally.steps += u64::from(steps);
+        tally.longest = tally.longest.max(steps);
         let pairs = &image.visited()[visited..];
         tally.visited_before += u64::from(steps) - pairs.len() as u64;
         let mut with_variable = 0;

@@ -57,6 +57,7 @@ pub struct Tally {
     pub instalments: u64,
     pub pauses: u64,
     pub steps: u64,
+    pub longest: u32,
     pub disjoint: u64,
     yes: u64,
     more: u64,
@@ -160,7 +161,7 @@ impl fmt::Display for Tally {
         writeln!(out, "  refused at a step: {}", self.steps_refused)?;
         writeln!(out, "instalments: {}", self.instalments)?;
         writeln!(out, "pauses compared: {}", self.pauses)?;
-        writeln!(out, "steps: {}", self.steps)?;
+        writeln!(out, "steps: {}; of one question at most: {}", self.steps, self.longest)?;
         writeln!(out, "How often each rule was hit; where there are two counts, on the left and on the right:")?;
         let named = self.named();
         for (name, counts) in &named {

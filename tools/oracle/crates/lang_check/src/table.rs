@@ -42,7 +42,7 @@ impl<'a> Attrset<'a> {
     }
 }
 
-/// How a question ended. The pair is the one visited last.
+/// How a question ended. The pair is the one visited last; a mismatch carries its types, which is tested.
 pub enum Answer {
     Yes,
     More,
@@ -144,7 +144,11 @@ impl Table {
         let answer = match result {
             Ok(()) if stopped => Answer::More,
             Ok(()) => Answer::Yes,
-            Err(InferenceError::TypeMismatch(_)) => Answer::Mismatch { sub, sup },
+            Err(InferenceError::TypeMismatch(types)) => {
+                assert_eq!(types.0, *self.0.types.concrete_ref(TyId(sub)));
+                assert_eq!(types.1, *self.0.types.concrete_ref(TyId(sup)));
+                Answer::Mismatch { sub, sup }
+            }
             Err(InferenceError::MissingField { field, .. }) => Answer::Missing { sub, sup, name: field },
             Err(_) => unreachable!(),
         };
