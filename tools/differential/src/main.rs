@@ -5,6 +5,7 @@ mod family;
 mod generate;
 mod image;
 mod numbers;
+mod questions;
 mod room;
 mod rules;
 mod script;

@@ -151,7 +151,7 @@ impl fmt::Display for Tally {
         let families: Vec<String> =
             FAMILIES.iter().zip(self.scripts).map(|(family, count)| format!("{} {count}", family.name())).collect();
         writeln!(out, "scripts: {}; {}", self.scripts.iter().sum::<u64>(), families.join(", "))?;
-        writeln!(out, "entries made by calls, or refused: {}", self.makes)?;
+        writeln!(out, "makes: {}", self.makes)?;
         writeln!(out, "  makes, bounds and levels refused: {}", self.calls_refused)?;
         writeln!(out, "disjoint: {}", self.disjoint)?;
         writeln!(out, "questions: {}", self.questions)?;
