@@ -356,8 +356,33 @@ impl Writer<'_> {
                 let (left, right) = (self.of(&[a]), self.of(&[b]));
                 self.say(Line::Disjoint(left, right))
             }
+            15 | 16 => self.absorbed(),
             _ => Ok(()),
         }
+    }
+
+    /// An intersection under an entry that has the negation of a side, through unions and named ones.
+    fn absorbed(&mut self) -> Ran {
+        let inter = self.of(&[INTER]);
+        let e = self.entry(inter);
+        if e.kind != INTER {
+            return Ok(());
+        }
+        let d = if self.entry(e.x).kind == VARIABLE { e.y } else { e.x };
+        self.say_make(Make::Neg(d))?;
+        let Some(mut sup) = self.entry(d).negation() else {
+            return Ok(());
+        };
+        for _ in 0..self.numbers.below(4) {
+            let make = match self.numbers.below(3) {
+                0 => Make::Named { inner: sup, label: 0 },
+                1 => Make::Union(sup, self.some()),
+                _ => Make::Union(self.some(), sup),
+            };
+            self.say_make(make)?;
+            sup = self.count() - 1;
+        }
+        self.ask(inter, sup)
     }
 
     /// Two entries to ask about, most often ones that no step has come by and that are not trivially unlike.
