@@ -175,23 +175,33 @@ impl Writer<'_> {
         Ok(())
     }
 
-    /// Many variables, each under the next, and what comes into the first and out of the last, in any order.
+    /// Many variables: what comes into the first, then each under the next; between these, more into the first or out of the last.
     fn long(&mut self) -> Ran {
         self.basics()?;
-        for _ in 0..self.numbers.between(8, 20) {
+        for _ in 0..self.numbers.between(20, 50) {
             self.make()?;
         }
         let first = self.count();
-        let variables = self.numbers.between(10, 30);
+        let variables = self.numbers.between(10, 40);
         for _ in 0..variables {
             self.say_make(Make::Variable)?;
         }
         let last = first + variables - 1;
-        for _ in 0..2 * variables {
+        for n in 0..first {
+            if self.numbers.chance(60) {
+                self.ask(n, first)?;
+            }
+        }
+        let from_last = self.numbers.chance(50);
+        for i in 0..variables - 1 {
+            let v = if from_last { last - 1 - i } else { first + i };
+            self.ask(v, v + 1)?;
             let other = self.numbers.below(first);
-            let v = self.numbers.between(first, last - 1);
-            let (left, right) = self.numbers.choice(&[(v, v + 1), (v, v + 1), (v, v + 1), (other, first), (last, other)]);
-            self.ask(left, right)?;
+            match self.numbers.below(10) {
+                0 | 1 => self.ask(other, first)?,
+                2 => self.ask(last, other)?,
+                _ => {}
+            }
         }
         Ok(())
     }
@@ -440,8 +450,8 @@ impl Writer<'_> {
 
     /// A question, with a limit, since the Rust need not end.
     fn ask(&mut self, left: u32, right: u32) -> Ran {
-        let most = if self.family == Family::Long { 4000 } else { self.numbers.choice(&[60, 60, 300]) };
-        let limit = if self.numbers.chance(25) { self.numbers.below(9) } else { most };
+        let (most, short) = if self.family == Family::Long { (4000, 1) } else { (self.numbers.choice(&[60, 60, 300]), 25) };
+        let limit = if self.numbers.chance(short) { self.numbers.below(9) } else { most };
         let instalments = if self.numbers.chance(50) { self.numbers.between(1, 4) } else { 0 };
         let budgets = (0..instalments).map(|_| self.numbers.choice(&[0, 1, 1, 1, 2, 3, 5, 40])).collect();
         let (equal, held, pauses) = (self.numbers.chance(8), self.numbers.chance(10), self.numbers.chance(25));
