@@ -55,7 +55,11 @@ impl<'a> Session<'a> {
     /// Runs a line on both sides. A panic of either is a difference, and the session is over.
     pub fn line(&mut self, line: &Line) -> Ran {
         let ran = panic::catch_unwind(AssertUnwindSafe(|| self.run(line)));
-        ran.unwrap_or_else(|_| Ok(same("whether a side panicked, see standard error", true, false)?))
+        ran.unwrap_or_else(|_| {
+            let said = "see standard error";
+            let difference = Difference { what: "a side panicked".into(), ours: said.into(), oracles: said.into() };
+            Err(Fault::Differs(Box::new(difference)))
+        })
     }
 
     fn run(&mut self, line: &Line) -> Ran {
