@@ -7,7 +7,7 @@ use model::Refusal;
 use model::Reply;
 
 // A budget that no question here uses up.
-pub const ALL: u32 = 4294967295;
+const ALL: u32 = 4294967295;
 
 // Writes all of s.
 pub fn print(s: &[u8]) {
@@ -44,7 +44,7 @@ pub fn print_work(list: &[u8], words: &mut [u32], budget: u32) {
 }
 
 // An answer, and the steps of its instalment.
-pub fn print_instalment(list: &[u8], done: Instalment) {
+fn print_instalment(list: &[u8], done: Instalment) {
     let answer = done.answer;
     print_answer(list, answer);
     print(b", ");
@@ -52,7 +52,7 @@ pub fn print_instalment(list: &[u8], done: Instalment) {
 }
 
 // So many steps.
-pub fn print_steps(steps: u32) {
+fn print_steps(steps: u32) {
     print_number(steps);
     if steps == 1 {
         print(b" step");
@@ -91,14 +91,6 @@ fn print_missing(list: &[u8], sub: u32, sup: u32, name: u32) {
     print(names::show(list, name));
     print(b" in ");
     print_pair(sub, sup);
-}
-
-// What a call answers that makes nothing.
-pub fn print_reply(list: &[u8], reply: Reply) {
-    match reply {
-        Reply::Done => print(b"done"),
-        Reply::Refused(r) => print_refusal(list, r),
-    }
 }
 
 // A refusal, by its number and its name in 01.
