@@ -90,7 +90,10 @@ fn work(arguments: &[String]) -> Result<(), String> {
     match arguments.iter().map(String::as_str).collect::<Vec<_>>()[..] {
         [out] => all(Path::new(out)).map_err(|why| format!("{out}: {why}")),
         ["repeat", case, times] => repeat(case, times.parse().ok().filter(|&times| times > 0).ok_or("TIMES is from 1 on")?),
-        _ => Err("usage: both OUT | both repeat CASE TIMES".into()),
+        _ => {
+            eprintln!("usage: both OUT | both repeat CASE TIMES");
+            process::exit(2)
+        }
     }
 }
 
