@@ -17,13 +17,14 @@ const TOP: f64 = 96.0;
 const BOTTOM: f64 = 64.0;
 
 const STYLE: &str = "
-  .card { fill: #ffffff; } .grid { stroke: #d9dde3; stroke-width: 1; } .axis { stroke: #6b7480; stroke-width: 1; }
+  .card { fill: #ffffff; } .grid { stroke: #d9dde3; } .axis { stroke: #6b7480; }
   text { fill: #1f2630; font: 13px system-ui, sans-serif; } .title { font-size: 16px; font-weight: 600; }
-  .line { fill: none; stroke-width: 2.5; } .last { stroke-dasharray: 7 5; } .dot { stroke: none; }
-  .ours { stroke: #0b62c4; fill: #0b62c4; } .rust { stroke: #b8470b; fill: #b8470b; } .line.ours, .line.rust { fill: none; }
+  .ours { stroke: #0b62c4; fill: #0b62c4; } .rust { stroke: #b8470b; fill: #b8470b; }
+  .line { stroke-width: 2.5; } .line.ours, .line.rust { fill: none; } .line.last { stroke-dasharray: 7 5; }
+  .dot { stroke-width: 2; } .dot.last { fill: #ffffff; }
   @media (prefers-color-scheme: dark) {
-    .card { fill: #14181e; } .grid { stroke: #323943; } .axis { stroke: #8c96a3; } text { fill: #e4e8ee; }
-    .ours { stroke: #6db1ff; fill: #6db1ff; } .rust { stroke: #ff9a5c; fill: #ff9a5c; } .line.ours, .line.rust { fill: none; }
+    .card, .dot.last { fill: #14181e; } .grid { stroke: #323943; } .axis { stroke: #8c96a3; } text { fill: #e4e8ee; }
+    .ours { stroke: #6db1ff; fill: #6db1ff; } .rust { stroke: #ff9a5c; fill: #ff9a5c; }
   }
 ";
 
