@@ -1,6 +1,7 @@
 //! That the three tests agree: on whole images, on faults at every region's ends, on small images with each word changed to each
 //! value at an edge, and on large ones changed at random.
-use crate::images::{deep, filled, laid, start_of, Random, HEADER, MOST, WIDTHS};
+use crate::images::{deep, filled, Random};
+use crate::layout::{laid, start_of, HEADER, MOST, WIDTHS};
 use crate::{ordinary, proved, twin};
 
 /// What all three say; ends the run where they differ, or where the answer is not the one that is due.

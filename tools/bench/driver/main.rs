@@ -2,12 +2,14 @@
 //! disagreement ends the run with status 1.
 mod agree;
 mod images;
+mod layout;
 #[path = "ordinary.rs"]
 mod ordinary_test;
 #[path = "twin.rs"]
 mod twin_test;
 
-use images::{filled, laid, Random, MOST};
+use images::{filled, Random};
+use layout::{laid, MOST};
 use std::hint::black_box;
 use std::time::Instant;
 
@@ -48,7 +50,7 @@ fn median(times: &mut [f64]) -> f64 {
     times[times.len() / 2]
 }
 
-/// Times the three in turn, each round beginning with another; prints medians and ratios.
+/// Times the three in turn, each round beginning with another; prints a row of medians and ratios.
 fn time(name: &str, image: &[u32]) {
     let tests: [fn(&[u32]) -> bool; 3] = [proved, ordinary, twin];
     let mut times = [const { Vec::new() }; 3];
@@ -59,10 +61,7 @@ fn time(name: &str, image: &[u32]) {
         }
     }
     let [p, o, t] = times.each_mut().map(|times| median(times));
-    println!("{name}");
-    println!("  proved check      {p:8.1} us");
-    println!("  Rust, ordinary    {o:8.1} us   ratio {:.2} (goal: at most {GOAL})", p / o);
-    println!("  Rust, same shapes {t:8.1} us   ratio {:.2}", p / t);
+    println!("| {name} | {p:.1} | {o:.1} | {:.2} | {t:.1} | {:.2} |", p / o, p / t);
 }
 
 fn main() {
@@ -77,7 +76,13 @@ fn main() {
         agree::agreed(image, Some(true), name);
         println!("{name}: agreed on the image, its faults and {DAMAGED} damaged ones, {kept} of them well formed");
     }
-    println!("{} words; medians of {ROUNDS} calls, in turn", images[0].1.len());
+    println!(
+        "{} words; medians of {ROUNDS} calls, in turn; the goal is a ratio of at most {GOAL} to the ordinary Rust",
+        images[0].1.len()
+    );
+    println!();
+    println!("| image | proved check, µs | Rust, ordinary, µs | ratio | Rust, same shapes, µs | ratio |");
+    println!("|---|---:|---:|---:|---:|---:|");
     for (name, image) in &images {
         time(name, image);
     }

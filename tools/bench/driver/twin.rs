@@ -145,11 +145,19 @@ fn unused_zero(e: EntryWords) -> bool {
 }
 
 fn flags_known(e: EntryWords) -> bool {
-    if e.kind == ATTRSET { e.flags <= 7 } else { e.flags <= 1 }
+    if e.kind == ATTRSET {
+        e.flags <= 7
+    } else {
+        e.flags <= 1
+    }
 }
 
 fn spread_at(image: &[u32], n: u32) -> usize {
-    if n < image[11] { entry_word(image, n, 5) as usize } else { 0 }
+    if n < image[11] {
+        entry_word(image, n, 5) as usize
+    } else {
+        0
+    }
 }
 
 fn spread_of(image: &[u32], kind: u32, x: u32, y: u32) -> usize {
@@ -222,7 +230,11 @@ fn fields_right(image: &[u32]) -> bool {
 }
 
 fn is_variable(image: &[u32], v: u32) -> bool {
-    if v < image[11] { entry_word(image, v, 0) == 0 } else { false }
+    if v < image[11] {
+        entry_word(image, v, 0) == 0
+    } else {
+        false
+    }
 }
 
 fn bound_right(image: &[u32], i: u32) -> bool {
