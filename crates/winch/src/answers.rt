@@ -1,0 +1,130 @@
+// What the calls answer, told on one line: refusals by their number and name in 01.
+use crate::print::print;
+use crate::print::print_next;
+use model::Made;
+use model::Refusal;
+use model::Reply;
+
+// The break kind of a missing field.
+const MISSING_FIELD: u32 = 2;
+
+// Tells an answer that is one word.
+pub fn tell(fd: i32, answer: &[u8]) {
+    print(fd, answer);
+    print(fd, b"\n");
+}
+
+// Tells an answer of a word and a number.
+pub fn tell_number(fd: i32, answer: &[u8], n: u32) {
+    print(fd, answer);
+    print_next(fd, n);
+    print(fd, b"\n");
+}
+
+// Tells a refusal.
+pub fn tell_refusal(fd: i32, names: &[u8], r: Refusal) {
+    print_refusal(fd, names, r);
+    print(fd, b"\n");
+}
+
+// What a call answers that says nothing when it is done.
+pub fn tell_done(fd: i32, names: &[u8], reply: Reply) {
+    match reply {
+        Reply::Done => {}
+        Reply::Refused(r) => tell_refusal(fd, names, r),
+    }
+}
+
+// What a make answers: the entry's number, and how many there are.
+pub fn tell_made(fd: i32, names: &[u8], made: Made, entries: u32) {
+    match made {
+        Made::Number(n) => tell_entry(fd, n, entries),
+        Made::Refused(r) => tell_refusal(fd, names, r),
+    }
+}
+
+// An entry that was made.
+fn tell_entry(fd: i32, n: u32, entries: u32) {
+    print(fd, b"=");
+    print_next(fd, n);
+    print_next(fd, entries);
+    print(fd, b"\n");
+}
+
+// A refusal, by its number and its name in 01.
+pub fn print_refusal(fd: i32, names: &[u8], r: Refusal) {
+    print(fd, b"refused ");
+    match r {
+        Refusal::NoRoom(region) => print_room(fd, region),
+        Refusal::Broken {
+            kind,
+            sub,
+            sup,
+            name,
+        } => {
+            print(fd, b"8 BROKEN ");
+            print_break(fd, names, kind, sub, sup, name);
+        }
+        _ => print_name(fd, r),
+    }
+}
+
+// A refusal that says nothing more.
+fn print_name(fd: i32, r: Refusal) {
+    match r {
+        Refusal::BadTable => print(fd, b"1 BAD TABLE"),
+        Refusal::BadNumber => print(fd, b"2 BAD NUMBER"),
+        Refusal::Busy => print(fd, b"3 BUSY"),
+        Refusal::Idle => print(fd, b"4 IDLE"),
+        Refusal::TooDeep => print(fd, b"6 TOO DEEP"),
+        Refusal::BadFields => print(fd, b"7 BAD FIELDS"),
+        Refusal::BadCapacity => print(fd, b"9 BAD CAPACITY"),
+        Refusal::Level => print(fd, b"10 LEVEL"),
+        Refusal::NotAVariable => print(fd, b"11 NOT A VARIABLE"),
+        Refusal::BadNames => print(fd, b"12 BAD NAMES"),
+        _ => {}
+    }
+}
+
+// The region that is full.
+fn print_room(fd: i32, region: u32) {
+    print(fd, b"5 NO ROOM ");
+    print_region(fd, region);
+}
+
+// A region's name.
+pub fn print_region(fd: i32, region: u32) {
+    match region {
+        image::ENTRIES => print(fd, b"entries"),
+        image::FIELDS => print(fd, b"fields"),
+        image::BOUNDS => print(fd, b"bounds"),
+        image::VISITED => print(fd, b"visited"),
+        image::PENDING => print(fd, b"pending"),
+        _ => print(fd, b"equals"),
+    }
+}
+
+// Why a question failed: the kind as in 01's break words, the pair, and the name of a field that is missing.
+pub fn print_break(fd: i32, names: &[u8], kind: u32, sub: u32, sup: u32, name: u32) {
+    if kind == MISSING_FIELD {
+        print_missing(fd, names, sub, sup, name);
+    } else {
+        print_mismatch(fd, sub, sup);
+    }
+}
+
+// A pair that does not fit.
+pub fn print_mismatch(fd: i32, sub: u32, sup: u32) {
+    print(fd, b"mismatch");
+    print_next(fd, sub);
+    print_next(fd, sup);
+}
+
+// A field that is missing, and the pair that lacks it.
+pub fn print_missing(fd: i32, names: &[u8], sub: u32, sup: u32, name: u32) {
+    print(fd, b"missing");
+    print_next(fd, sub);
+    print_next(fd, sup);
+    print(fd, b" ");
+    print(fd, names::show(names, name));
+}
