@@ -84,3 +84,18 @@ fn read_numbers(
     }
     true
 }
+
+// Reads six words as numbers, and tells nothing.
+pub fn are_numbers(text: &[u8], from: usize, args: &mut [u32; 6]) -> bool {
+    let mut word = next_word(text, from);
+    let mut at: usize = 0;
+    while at < MOST {
+        match number_in(bytes_of(text, word)) {
+            Number::Value(n) => args[at] = n,
+            _ => return false,
+        }
+        word = next_word(text, word.end);
+        at += 1;
+    }
+    true
+}

@@ -83,7 +83,7 @@ equal A B           whether A and B fit under each other
 held ask A B        the same, refused once a question in this table has failed; also held equal
 open ask A B        only asks, for work; also open equal, held open ask, held open equal
 work N              works the open question N steps more at most; work alone: to its end
-abandon             gives the open question up
+abandon             gives the open question up; one that was refused 5 or 6 is open until then
 limit N             at most N steps for each ask and equal after this: more, and the question is given up; -1: no limit
 plain 1             leaves the limit aside from here on; 0: back
 ",

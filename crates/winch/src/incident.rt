@@ -27,16 +27,14 @@ prim 4
 prim 7
 attr 0 -1 4 antenna 0 0 band 0 0 elevation 1 0 polarisation 0 0     # 2: what the station takes
 attr 0 -1 4 antenna 0 0 band 0 0 elevation 0 0 polarisation 0 0     # 3: a request whose elevation is text
-var                    # 4, 5, 6: relays. What one takes goes on to the next, from the last to the station.
-var
+var                    # 4, 5: relays. What the first takes goes on to the second, and from there to the station.
 var
 ask 4 5
-ask 5 6
-ask 6 2
+ask 5 2
 open ask 3 4           # Does the request fit the first relay? In instalments:
-work 3
+work 2
 state                  # Timed out here. The table keeps the question, and the pairs that are pending.
-work 3                 # Later it goes on where it stopped.
+work 2                 # Later it goes on where it stopped.
 work
 
 # The same without a pause: the same answer, and as many steps in all.
@@ -47,10 +45,8 @@ attr 0 -1 4 antenna 0 0 band 0 0 elevation 1 0 polarisation 0 0
 attr 0 -1 4 antenna 0 0 band 0 0 elevation 0 0 polarisation 0 0
 var
 var
-var
 ask 4 5
-ask 5 6
-ask 6 2
+ask 5 2
 ask 3 4
 
 # The same begun again after the time-out, as the Rust does, in a table half changed: yes, and it does not fit.
@@ -61,11 +57,9 @@ attr 0 -1 4 antenna 0 0 band 0 0 elevation 1 0 polarisation 0 0
 attr 0 -1 4 antenna 0 0 band 0 0 elevation 0 0 polarisation 0 0
 var
 var
-var
 ask 4 5
-ask 5 6
-ask 6 2
-limit 3
+ask 5 2
+limit 2
 ask 3 4
 limit -1
 ask 3 4

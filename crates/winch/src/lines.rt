@@ -146,11 +146,14 @@ fn obey_question(
     is_held: bool,
     is_open: bool,
 ) {
+    if verb.end <= verb.start {
+        return wrong(fd, desk, b"held and open stand before ask or equal");
+    }
     if !is_question(number) {
         return wrong_after(
             fd,
             desk,
-            b"after held and open stands ask or equal, not",
+            b"held and open stand before ask or equal, not before",
             bytes_of(text, verb),
         );
     }

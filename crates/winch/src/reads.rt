@@ -10,13 +10,16 @@ use crate::print::print_called;
 use crate::print::print_next;
 use crate::print::print_number;
 use crate::shown;
+use crate::text::Number;
 use crate::text::Word;
 use crate::text::bytes_of;
 use crate::text::count_words;
 use crate::text::index_of;
 use crate::text::next_word;
+use crate::text::number_in;
 use crate::words::entries;
 use crate::words::word;
+use crate::wrong::wrong_after;
 use crate::wrong::wrong_count;
 use model::Disjointness;
 use model::EntryRead;
@@ -67,7 +70,13 @@ fn read_region(fd: i32, desk: &mut [u32; 10256], text: &[u8], word: Word) -> Arg
     if region < REGIONS {
         return Arg::Number(region + 1);
     }
-    read(fd, desk, text, word)
+    match number_in(bytes_of(text, word)) {
+        Number::Value(n) => Arg::Number(n),
+        _ => {
+            wrong_after(fd, desk, b"no region", bytes_of(text, word));
+            Arg::Wrong
+        }
+    }
 }
 
 // A record, or why it is refused.

@@ -26,7 +26,7 @@ fn largest() -> Capacities {
 }
 
 // The capacities of a line.
-fn capacities(args: &[u32; 6]) -> Capacities {
+pub fn capacities(args: &[u32; 6]) -> Capacities {
     Capacities {
         entries: args[0],
         fields: args[1],
@@ -49,7 +49,7 @@ fn size_of(c: Capacities) -> usize {
 }
 
 // Whether no capacity is over its maximum.
-fn is_small(c: Capacities) -> bool {
+pub fn is_small(c: Capacities) -> bool {
     (c.entries <= image::ENTRIES_MOST)
         & (c.fields <= image::FIELDS_MOST)
         & (c.bounds <= image::BOUNDS_MOST)

@@ -48,3 +48,15 @@ pub fn wrong_count(fd: i32, desk: &mut [u32; 10256], verb: &[u8], takes: &[u8], 
     print_number(fd, got);
     print(fd, b"\n");
 }
+
+// How many words an attrset's line takes, and how many there are.
+pub fn wrong_fields(fd: i32, desk: &mut [u32; 10256], count: u32, takes: u32, got: u32) {
+    print_line(fd, desk);
+    print(fd, b"attr of ");
+    print_number(fd, count);
+    print(fd, b" fields takes ");
+    print_number(fd, takes);
+    print(fd, b" words, got ");
+    print_number(fd, got);
+    print(fd, b"\n");
+}
