@@ -1,0 +1,46 @@
+-- `drawing::edges::draw_fields` is safe and ends: what is left of the fields falls. Assumes nothing.
+use Prim.Native.Nat.{_≤_, _-_}
+use borrow.Author.Needs.{needs}
+use Rattle.drawing.proofs.edges.draw_fields.Statement.{statement}
+use Rattle.drawing.proofs.edges.draw_fields.Tie as tie
+
+abbrev Inv-loop : tie.InvT-loop
+Inv-loop list image owner a n₀ n = n ≤ a .count
+
+abbrev μ-loop : tie.MeasureT-loop
+μ-loop list image owner a n₀ n = a .count - n
+
+loop-holds : tie.Need-loop-holds Inv-loop μ-loop
+loop-holds c = search needs
+
+wrapping-add-u32-requires : tie.Need-wrapping-add-u32-requires Inv-loop μ-loop
+wrapping-add-u32-requires c κs = search needs
+
+draw-field-requires : tie.Need-draw-field-requires Inv-loop μ-loop
+draw-field-requires c κs = search needs
+
+add-n : tie.Need-add-n Inv-loop μ-loop
+add-n c = search needs
+
+loop-less : tie.Need-loop-less Inv-loop μ-loop
+loop-less c = search needs
+
+loop-again : tie.Need-loop-again Inv-loop μ-loop
+loop-again c = search needs
+
+returns : tie.Need-returns Inv-loop μ-loop
+returns c = search needs
+
+pub draw-fields-spec : {M : Type 1} → statement M
+draw-fields-spec =
+    tie.close
+    (tie.spec
+    Inv-loop
+    μ-loop
+    loop-holds
+    wrapping-add-u32-requires
+    draw-field-requires
+    add-n
+    loop-less
+    loop-again
+    returns)

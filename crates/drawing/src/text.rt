@@ -1,0 +1,55 @@
+// A name's bytes in a label. What is shown has printable ASCII alone and tells the name exactly: a backslash is shown as two, and each
+// byte that is not printable as \xNN. Between DOT's quotes a backslash is written twice and a quote behind one; an ampersand would
+// begin one of HTML's characters.
+use model::Reply;
+use telling::print;
+use telling::print_number;
+
+const HEX: [u8; 16] = *b"0123456789ABCDEF";
+
+// A name, or its number where the list has no such name.
+pub fn print_name(list: &[u8], n: u32) {
+    match names::check_name(list, n) {
+        Reply::Done => print_text(names::show(list, n)),
+        Reply::Refused(_) => print_unnamed(n),
+    }
+}
+
+// A name by its number.
+fn print_unnamed(n: u32) {
+    print(b"name ");
+    print_number(n);
+}
+
+// Each byte.
+fn print_text(s: &[u8]) {
+    let mut at: usize = 0;
+    while at < s.len() {
+        print_byte(s[at]);
+        at += 1;
+    }
+}
+
+// A byte.
+fn print_byte(b: u8) {
+    match b {
+        b'"' => print(b"\\\""),
+        b'\\' => print(b"\\\\\\\\"),
+        b'&' => print(b"&amp;"),
+        b' '..=b'~' => print_plain(b),
+        _ => print_hex(b),
+    }
+}
+
+// A byte as it stands.
+fn print_plain(b: u8) {
+    let one = [b];
+    print(&one);
+}
+
+// A byte that is shown as \xNN.
+fn print_hex(b: u8) {
+    print(b"\\\\x");
+    print_plain(HEX[(b / 16) as usize]);
+    print_plain(HEX[(b % 16) as usize]);
+}
