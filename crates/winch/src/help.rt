@@ -106,6 +106,7 @@ compare I J         how names I and J compare: -1, 0 or 1
 check               whether the table is well formed
 dump                all of the table: entries, bounds, visited pairs, pairs asked equal
 dumps               dump with the visited pairs sorted
+dot                 the table as a graph for Graphviz, on standard output
 ",
     );
 }

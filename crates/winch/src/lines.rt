@@ -241,6 +241,16 @@ fn begin(
     }
 }
 
+// Draws the table on standard output.
+pub fn draw(desk: &[u32; 10256], list: &[u8; 73731], words: &[u32]) {
+    let bytes = wide(desk[LIST]);
+    let size = wide(desk[WORDS]);
+    if words.len() < size {
+        return;
+    }
+    drawing::draw(part(list, 0, bytes), &words[0..size]);
+}
+
 // Obeys a verb in the table's words, and with its names.
 fn obey_table(
     fd: i32,
@@ -339,7 +349,7 @@ fn obey_numbers(
         0..=6 => make(fd, names, words, number, &args),
         7..=9 => put(fd, names, words, number, &args),
         10..=15 => obey_moves(fd, text, desk, names, words, number, &args),
-        16..=25 => obey_reads(fd, text, desk, names, words, number, &args),
+        16..=26 => obey_reads(fd, text, desk, names, words, number, &args),
         _ => obey_settings(fd, desk, number, args[0]),
     }
 }
@@ -395,6 +405,7 @@ fn obey_reads(
         verbs::NAME => tell_name(fd, names, args[0]),
         verbs::COMPARE => tell_compared(fd, names, args[0], args[1]),
         verbs::CHECK => tell_check(fd, words),
+        verbs::DOT => drawing::draw(names, words),
         _ => dump(fd, text, desk, names, words, number == verbs::DUMPS),
     }
 }

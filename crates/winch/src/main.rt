@@ -155,6 +155,9 @@ fn run(fd: i32, script: &[u8], is_drawn: bool) {
     let mut desk = desk::empty();
     tables::start_largest(fd, script, &mut desk, &mut list, &mut words, 0);
     lines::run(fd, script, &mut desk, &mut list, &mut words);
+    if is_drawn {
+        lines::draw(&desk, &list, &words);
+    }
     tell_wrong(desk[desk::WRONG]);
 }
 

@@ -53,39 +53,41 @@ pub const DUMP: u32 = 24;
 
 pub const DUMPS: u32 = 25;
 
-pub const PLAIN: u32 = 26;
+pub const DOT: u32 = 26;
 
-pub const ECHO: u32 = 27;
+pub const PLAIN: u32 = 27;
 
-pub const TIME: u32 = 28;
+pub const ECHO: u32 = 28;
 
-pub const HELP: u32 = 29;
+pub const TIME: u32 = 29;
 
-pub const NEW: u32 = 30;
+pub const HELP: u32 = 30;
 
-pub const START: u32 = 31;
+pub const NEW: u32 = 31;
+
+pub const START: u32 = 32;
 
 // Those that take something other than a fixed number of numbers.
-pub const ATTR: u32 = 32;
+pub const ATTR: u32 = 33;
 
-pub const NAMED: u32 = 33;
+pub const NAMED: u32 = 34;
 
-pub const NAMES: u32 = 34;
+pub const NAMES: u32 = 35;
 
-pub const FIND: u32 = 35;
+pub const FIND: u32 = 36;
 
-pub const RECORD: u32 = 36;
+pub const RECORD: u32 = 37;
 
-pub const WORK: u32 = 37;
+pub const WORK: u32 = 38;
 
-pub const LIMIT: u32 = 38;
+pub const LIMIT: u32 = 39;
 
-pub const NONE: u32 = 39;
+pub const NONE: u32 = 40;
 
 // The number of a verb; NONE where it is none.
 pub fn verb(word: &[u8]) -> u32 {
     index_of(
-        b"var prim list lambda neg inter union mark bound setlevel level enter exit ask equal abandon entry state count disjoint op name compare check dump dumps plain echo time help new start attr named names find record work limit",
+        b"var prim list lambda neg inter union mark bound setlevel level enter exit ask equal abandon entry state count disjoint op name compare check dump dumps dot plain echo time help new start attr named names find record work limit",
         word,
     )
 }
