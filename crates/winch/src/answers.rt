@@ -1,6 +1,7 @@
 // What the calls answer, told on one line: refusals by their number and name in 01.
 use crate::print::print;
 use crate::print::print_next;
+use crate::text::line;
 use model::Made;
 use model::Refusal;
 use model::Reply;
@@ -54,54 +55,76 @@ fn tell_entry(fd: i32, n: u32, entries: u32) {
 // A refusal, by its number and its name in 01.
 pub fn print_refusal(fd: i32, names: &[u8], r: Refusal) {
     print(fd, b"refused ");
+    print_name(fd, refusal_number(r));
     match r {
-        Refusal::NoRoom(region) => print_room(fd, region),
+        Refusal::NoRoom(region) => {
+            print(fd, b" ");
+            print_region(fd, region);
+        }
         Refusal::Broken {
             kind,
             sub,
             sup,
             name,
         } => {
-            print(fd, b"8 BROKEN ");
+            print(fd, b" ");
             print_break(fd, names, kind, sub, sup, name);
         }
-        _ => print_name(fd, r),
-    }
-}
-
-// A refusal that says nothing more.
-fn print_name(fd: i32, r: Refusal) {
-    match r {
-        Refusal::BadTable => print(fd, b"1 BAD TABLE"),
-        Refusal::BadNumber => print(fd, b"2 BAD NUMBER"),
-        Refusal::Busy => print(fd, b"3 BUSY"),
-        Refusal::Idle => print(fd, b"4 IDLE"),
-        Refusal::TooDeep => print(fd, b"6 TOO DEEP"),
-        Refusal::BadFields => print(fd, b"7 BAD FIELDS"),
-        Refusal::BadCapacity => print(fd, b"9 BAD CAPACITY"),
-        Refusal::Level => print(fd, b"10 LEVEL"),
-        Refusal::NotAVariable => print(fd, b"11 NOT A VARIABLE"),
-        Refusal::BadNames => print(fd, b"12 BAD NAMES"),
         _ => {}
     }
 }
 
-// The region that is full.
-fn print_room(fd: i32, region: u32) {
-    print(fd, b"5 NO ROOM ");
-    print_region(fd, region);
+// A refusal's number in 01.
+fn refusal_number(r: Refusal) -> u32 {
+    match r {
+        Refusal::BadTable => 1,
+        Refusal::BadNumber => 2,
+        Refusal::Busy => 3,
+        Refusal::Idle => 4,
+        Refusal::NoRoom(_) => 5,
+        Refusal::TooDeep => 6,
+        Refusal::BadFields => 7,
+        Refusal::Broken {
+            kind: _,
+            sub: _,
+            sup: _,
+            name: _,
+        } => 8,
+        Refusal::BadCapacity => 9,
+        Refusal::Level => 10,
+        Refusal::NotAVariable => 11,
+        Refusal::BadNames => 12,
+    }
+}
+
+// A refusal's number and name.
+fn print_name(fd: i32, number: u32) {
+    let lines = b"0
+1 BAD TABLE
+2 BAD NUMBER
+3 BUSY
+4 IDLE
+5 NO ROOM
+6 TOO DEEP
+7 BAD FIELDS
+8 BROKEN
+9 BAD CAPACITY
+10 LEVEL
+11 NOT A VARIABLE
+12 BAD NAMES";
+    print(fd, line(lines, number));
 }
 
 // A region's name.
 pub fn print_region(fd: i32, region: u32) {
-    match region {
-        image::ENTRIES => print(fd, b"entries"),
-        image::FIELDS => print(fd, b"fields"),
-        image::BOUNDS => print(fd, b"bounds"),
-        image::VISITED => print(fd, b"visited"),
-        image::PENDING => print(fd, b"pending"),
-        _ => print(fd, b"equals"),
-    }
+    let lines = b"0
+entries
+fields
+bounds
+visited
+pending
+equals";
+    print(fd, line(lines, region));
 }
 
 // Why a question failed: the kind as in 01's break words, the pair, and the name of a field that is missing.

@@ -5,7 +5,7 @@ use crate::text::bytes_of;
 use crate::text::count_words;
 use crate::text::next_word;
 use crate::text::number_in;
-use crate::wrong::wrong_count;
+use crate::wrong::wrong_numbers;
 use crate::wrong::wrong_word;
 
 // A line has at most so many numbers, where it takes a fixed number of them.
@@ -22,15 +22,15 @@ pub fn read(fd: i32, desk: &mut [u32; 10256], text: &[u8], word: Word) -> Arg {
     let bytes = bytes_of(text, word);
     match number_in(bytes) {
         Number::Value(n) => Arg::Number(n),
-        Number::Large => {
-            wrong_word(fd, desk, bytes, b"is over 4294967295");
-            Arg::Wrong
-        }
-        Number::Wrong => {
-            wrong_word(fd, desk, bytes, b"is no number");
-            Arg::Wrong
-        }
+        Number::Large => told(fd, desk, bytes, b"is over 4294967295"),
+        Number::Wrong => told(fd, desk, bytes, b"is no number"),
     }
+}
+
+// Tells why a word is wrong.
+fn told(fd: i32, desk: &mut [u32; 10256], bytes: &[u8], why: &[u8]) -> Arg {
+    wrong_word(fd, desk, bytes, why);
+    Arg::Wrong
 }
 
 // Reads the numbers of a line, as many as its verb takes; else what is wrong is told.
@@ -48,17 +48,6 @@ pub fn read_all(
         return false;
     }
     read_numbers(fd, desk, text, verb.end, args)
-}
-
-// Tells that a line has not as many numbers as its verb takes.
-fn wrong_numbers(fd: i32, desk: &mut [u32; 10256], verb: &[u8], takes: u32, got: u32) {
-    match takes {
-        0 => wrong_count(fd, desk, verb, b"no words", got),
-        1 => wrong_count(fd, desk, verb, b"1 number", got),
-        2 => wrong_count(fd, desk, verb, b"2 numbers", got),
-        3 => wrong_count(fd, desk, verb, b"3 numbers", got),
-        _ => wrong_count(fd, desk, verb, b"6 numbers", got),
-    }
 }
 
 // Reads every word from a place on.

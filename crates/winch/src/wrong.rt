@@ -49,6 +49,27 @@ pub fn wrong_count(fd: i32, desk: &mut [u32; 10256], verb: &[u8], takes: &[u8], 
     print(fd, b"\n");
 }
 
+// How many numbers a verb takes, and how many words there are.
+pub fn wrong_numbers(fd: i32, desk: &mut [u32; 10256], verb: &[u8], takes: u32, got: u32) {
+    print_line(fd, desk);
+    print(fd, verb);
+    print(fd, b" takes ");
+    print_count(fd, takes);
+    print(fd, b", got ");
+    print_number(fd, got);
+    print(fd, b"\n");
+}
+
+// So many numbers.
+fn print_count(fd: i32, n: u32) {
+    print_number(fd, n);
+    if n == 1 {
+        print(fd, b" number");
+    } else {
+        print(fd, b" numbers");
+    }
+}
+
 // How many words an attrset's line takes, and how many there are.
 pub fn wrong_fields(fd: i32, desk: &mut [u32; 10256], count: u32, takes: u32, got: u32) {
     print_line(fd, desk);
