@@ -14,22 +14,20 @@ pub const LIST: usize = 3;
 
 pub const LABELS: usize = 4;
 
-// How many names were given, and whether they were.
+// How many names were given.
 pub const GIVEN: usize = 5;
 
-pub const IS_GIVEN: usize = 6;
-
 // Whether questions have a limit, and which; whether it is left aside.
-pub const IS_LIMITED: usize = 7;
+pub const IS_LIMITED: usize = 6;
 
-pub const LIMIT: usize = 8;
+pub const LIMIT: usize = 7;
 
-pub const IS_PLAIN: usize = 9;
+pub const IS_PLAIN: usize = 8;
 
 // Whether lines are shown, and the clock at the last `time`.
-pub const ECHO: usize = 10;
+pub const ECHO: usize = 9;
 
-pub const CLOCK: usize = 11;
+pub const CLOCK: usize = 10;
 
 // Where the label words start, each from its first byte to the one past its last; where the names that were given.
 pub const LABELS_AT: usize = 16;
