@@ -7,13 +7,34 @@ pub fn print_help(fd: i32) {
     print(
         fd,
         b"
-A script has one verb to a line; # begins a comment. It has at most 1048576 bytes.
-A, B, E, V are entry numbers, from 0 on. Every answer is one line. A refusal is an answer: refused, its number and its name.
-A line that is wrong is told with its number and why; it changes nothing, and the next line is run.
+A script has one verb to a line; # begins a comment. It has at most 1048576 bytes. A, B, E and V are entry numbers, from 0 on.
+Every answer is one line. A line that is wrong is told with its number and why; it changes nothing, and the next line is run.
 
 ",
     );
     print_verbs(fd);
+    print_refusals(fd);
+}
+
+// Every refusal that can be met, and when.
+fn print_refusals(fd: i32) {
+    print(
+        fd,
+        b"
+A refusal is an answer, and changes nothing in the table:
+refused 2 BAD NUMBER       an entry, name or record that is not there; a primitive, side, region or operator that is none
+refused 3 BUSY             a question is open: work or abandon it first
+refused 4 IDLE             no question is open
+refused 5 NO ROOM REGION   a region is full; steps N: those that were made before, which are kept, and the question stays open
+refused 6 TOO DEEP         an entry's spread would pass 1024; steps N as above
+refused 7 BAD FIELDS       a field is named twice, or its OPT is not 0 or 1
+refused 8 BROKEN WHY       a question in this table has failed, so none is asked held
+refused 9 BAD CAPACITY     more than 4096 entries, 16384 fields, or 65536 of the others
+refused 10 LEVEL           exit at level 0, or enter at the last level
+refused 11 NOT A VARIABLE  bound or setlevel of another entry
+refused 12 BAD NAMES       a name is given twice, has more than 255 bytes, or all have more than 65535
+",
+    );
 }
 
 // What the program is called with.
@@ -78,7 +99,7 @@ setlevel V N        sets the level of the variable V
 fn print_questions(fd: i32) {
     print(
         fd,
-        b"ask A B             whether A fits under B: yes, mismatch SUB SUP, or missing SUB SUP NAME, each with its steps
+        b"ask A B             whether A fits under B: yes, mismatch SUB SUP, or missing SUB SUP NAME, with steps N
 equal A B           whether A and B fit under each other
 held ask A B        the same, refused once a question in this table has failed; also held equal
 open ask A B        only asks, for work; also open equal, held open ask, held open equal
@@ -104,7 +125,8 @@ name N              name N of the table's list
 find NAME           the number of a name
 compare I J         how names I and J compare: -1, 0 or 1
 check               whether the table is well formed
-dump                all of the table: entries, bounds, visited pairs, pairs asked equal
+dump                all of the table: e ENTRY m MARK n NEGATION : KIND .., b VARIABLE SIDE BOUND, v SUB SUP visited, q A B equal;
+                    kinds 0 variable, 1 primitive, 2 list, 3 lambda, 4 attrset, 5 named, 6 neg, 7 inter, 8 union
 dumps               dump with the visited pairs sorted
 dot                 the table as a graph for Graphviz, on standard output
 ",
