@@ -6,9 +6,6 @@ use model::Made;
 use model::Refusal;
 use model::Reply;
 
-// The break kind of a missing field.
-const MISSING_FIELD: u32 = 2;
-
 // Tells an answer that is one word.
 pub fn tell(fd: i32, answer: &[u8]) {
     print(fd, answer);
@@ -129,7 +126,7 @@ equals";
 
 // Why a question failed: the kind as in 01's break words, the pair, and the name of a field that is missing.
 pub fn print_break(fd: i32, names: &[u8], kind: u32, sub: u32, sup: u32, name: u32) {
-    if kind == MISSING_FIELD {
+    if kind == image::FIELD_MISSING {
         print_missing(fd, names, sub, sup, name);
     } else {
         print_mismatch(fd, sub, sup);

@@ -51,7 +51,6 @@ use crate::words::wide;
 use crate::wrong::wrong;
 use crate::wrong::wrong_after;
 use crate::wrong::wrong_count;
-ghost use mathlib.Core.Path.{_≡_};
 ghost use Prim.Native.Nat.{_≤_};
 ghost use lib.ListN.{length};
 
@@ -346,10 +345,10 @@ fn obey_numbers(
         return;
     }
     match number {
-        0..=6 => make(fd, names, words, number, &args),
-        7..=9 => put(fd, names, words, number, &args),
-        10..=15 => obey_moves(fd, text, desk, names, words, number, &args),
-        16..=26 => obey_reads(fd, text, desk, names, words, number, &args),
+        verbs::VAR..=verbs::UNION => make(fd, names, words, number, &args),
+        verbs::MARK..=verbs::SETLEVEL => put(fd, names, words, number, &args),
+        verbs::LEVEL..=verbs::ABANDON => obey_moves(fd, text, desk, names, words, number, &args),
+        verbs::ENTRY..=verbs::DOT => obey_reads(fd, text, desk, names, words, number, &args),
         _ => obey_settings(fd, desk, number, args[0]),
     }
 }

@@ -31,8 +31,6 @@ use print::print;
 use print::print_number;
 use text::is;
 use text::part;
-ghost use mathlib.Core.Path.{_≡_};
-ghost use lib.ListN.{length};
 
 // A script has at most so many bytes.
 const SCRIPT_MOST: usize = 1048576;
