@@ -1,0 +1,115 @@
+// Labels of named entries. In the table a label is a number: a word that is one is that number, and other words are numbered in the
+// order of their first use in a table, from FIRST on. They stand in the script, so that the desk keeps where.
+use crate::desk::LABELS;
+use crate::desk::LABELS_AT;
+use crate::desk::keep;
+use crate::desk::kept;
+use crate::print::print;
+use crate::print::print_number;
+use crate::text::Number;
+use crate::text::Word;
+use crate::text::bytes_of;
+use crate::text::is;
+use crate::text::number_in;
+use crate::text::part;
+use crate::words::wide;
+ghost use Prim.Native.Nat.{_≤_};
+
+// A table takes at most so many label words.
+pub const MOST: u32 = 1024;
+
+// The number of the first label word.
+const FIRST: u32 = 4294901760;
+
+// What a label comes to.
+pub enum Label {
+    Number(u32),
+    Full,
+}
+
+// The number of a label.
+pub fn label_number(text: &[u8], desk: &mut [u32; 10256], word: Word) -> Label {
+    let bytes = bytes_of(text, word);
+    if is_padded(bytes) {
+        return label_word(text, desk, word);
+    }
+    match number_in(bytes) {
+        Number::Value(n) => {
+            if n < FIRST {
+                Label::Number(n)
+            } else {
+                label_word(text, desk, word)
+            }
+        }
+        _ => label_word(text, desk, word),
+    }
+}
+
+// Whether a number has a zero before it.
+fn is_padded(bytes: &[u8]) -> bool {
+    if bytes.len() < 2 {
+        return false;
+    }
+    bytes[0] == b'0'
+}
+
+// The number of a label word, which is kept if it is new.
+fn label_word(text: &[u8], desk: &mut [u32; 10256], word: Word) -> Label {
+    let at = find(text, desk, bytes_of(text, word));
+    if MOST <= at {
+        return Label::Full;
+    }
+    if desk[LABELS] == at {
+        keep_label(desk, at, word);
+    }
+    Label::Number(std::num::wrapping_add_u32(FIRST, at))
+}
+
+// Keeps a new label word.
+fn keep_label(desk: &mut [u32; 10256], at: u32, word: Word) {
+    desk[LABELS] = std::num::wrapping_add_u32(at, 1);
+    let place = place_of(at);
+    keep(desk, place, narrow(word.start));
+    keep(desk, place + 1, narrow(word.end));
+}
+
+// Where a label word's start is kept.
+fn place_of(at: u32) -> usize
+    ensures { λ r. ⌜ r ≤ 8589934606 ⌝ }
+{
+    LABELS_AT + 2 * wide(at)
+}
+
+// A place in the script as a word of the desk.
+pub fn narrow(at: usize) -> u32 {
+    (at % 4294967296) as u32
+}
+
+// The place of a label word among those of the table; their count where it is new.
+fn find(text: &[u8], desk: &[u32; 10256], bytes: &[u8]) -> u32 {
+    let count = kept(desk, LABELS);
+    let mut at: u32 = 0;
+    while at < count {
+        if is(kept_label(text, desk, at), bytes) {
+            return at;
+        }
+        at += 1;
+    }
+    at
+}
+
+// A label word that was kept.
+fn kept_label<'a>(text: &'a [u8], desk: &[u32; 10256], at: u32) -> &'a [u8] {
+    let place = place_of(at);
+    let start = wide(kept(desk, place));
+    let end = wide(kept(desk, place + 1));
+    part(text, start, end)
+}
+
+// A label as the script has it.
+pub fn print_label(fd: i32, text: &[u8], desk: &[u32; 10256], n: u32) {
+    if n < FIRST {
+        return print_number(fd, n);
+    }
+    print(fd, kept_label(text, desk, n - FIRST));
+}
