@@ -1,0 +1,104 @@
+//! Makes a failing case smaller. A fault may end the program, so each try is a program of its own; it fails where its status is not 0.
+
+use crate::case::{parse, Line};
+use std::io::Write;
+use std::process::{Command, Output, Stdio};
+
+/// This program again, with the sanitizer told to keep wide red zones.
+pub fn own_program(args: &[&str]) -> Command {
+    let mut command = Command::new(std::env::current_exe().expect("the driver's path"));
+    command.args(args).env("ASAN_OPTIONS", "detect_leaks=0:redzone=512:allocator_may_return_null=0");
+    command
+}
+
+/// Shrinks a case of a run, which the driver makes again and prints.
+pub fn case_of(memory: &str, seed: &str, case: &str) {
+    let output = own_program(&["lines", memory, seed, case]).output().expect("the driver again");
+    let text = String::from_utf8_lossy(&output.stdout);
+    shrink(memory, text.lines().filter_map(parse).collect());
+}
+
+pub fn from_input(memory: &str) -> Option<()> {
+    let lines = std::io::stdin().lines().map(|line| parse(&line.ok()?)).collect::<Option<Vec<Line>>>()?;
+    shrink(memory, lines);
+    Some(())
+}
+
+fn shrink(memory: &str, mut lines: Vec<Line>) {
+    if !fails(memory, &lines) {
+        println!("the case does not fail when it is repeated by itself:");
+        lines.iter().for_each(|line| println!("{line}"));
+        return;
+    }
+    loop {
+        let before = lines.len();
+        lines = with_fewer_lines(memory, lines);
+        let simpler = with_simpler_lines(memory, &mut lines);
+        if lines.len() == before && !simpler {
+            break;
+        }
+    }
+    println!("the smallest case found ({} lines; `repeat {memory}` reads it):", lines.len());
+    lines.iter().for_each(|line| println!("{line}"));
+    let said = tried(memory, &lines);
+    println!("{}", if said.stderr.is_empty() { format!("ended by {}", said.status) } else { head(&said.stderr) });
+}
+
+/// The first lines of what was said, which name the fault.
+fn head(said: &[u8]) -> String {
+    String::from_utf8_lossy(said).lines().take(8).collect::<Vec<_>>().join("\n")
+}
+
+/// Leaves out runs of lines, long ones first.
+fn with_fewer_lines(memory: &str, mut lines: Vec<Line>) -> Vec<Line> {
+    let mut run = lines.len() / 2;
+    while run > 0 {
+        let mut at = lines.len().saturating_sub(run);
+        loop {
+            let mut fewer = lines.clone();
+            fewer.drain(at..(at + run).min(lines.len()));
+            if fails(memory, &fewer) {
+                lines = fewer;
+            }
+            if at == 0 {
+                break;
+            }
+            at = at.saturating_sub(run);
+        }
+        run /= 2;
+    }
+    lines
+}
+
+fn with_simpler_lines(memory: &str, lines: &mut [Line]) -> bool {
+    let mut any = false;
+    for i in 0..lines.len() {
+        for simpler in lines[i].simpler() {
+            let mut tried = lines.to_vec();
+            tried[i] = simpler.clone();
+            if fails(memory, &tried) {
+                lines[i] = simpler;
+                any = true;
+                break;
+            }
+        }
+    }
+    any
+}
+
+fn fails(memory: &str, lines: &[Line]) -> bool {
+    !tried(memory, lines).status.success()
+}
+
+fn tried(memory: &str, lines: &[Line]) -> Output {
+    let mut child = own_program(&["repeat", memory])
+        .stdin(Stdio::piped())
+        .stdout(Stdio::piped())
+        .stderr(Stdio::piped())
+        .spawn()
+        .expect("the driver again");
+    let text: String = lines.iter().map(|line| format!("{line}\n")).collect();
+    // a program that ended before it read all is seen by its status
+    child.stdin.take().expect("its input").write_all(text.as_bytes()).ok();
+    child.wait_with_output().expect("its status")
+}
