@@ -137,11 +137,12 @@ impl Play<'_> {
             self.call(kind, &[last, last])?;
             last = next;
         }
-        if self.random.chance(50) {
-            self.call(Which::Ask, &[0, 2, last])?;
-            self.call(Which::Work, &[100])?;
+        let which = self.random.of_these(&[Which::Ask, Which::MakeNamed, Which::MakeNeg]);
+        if which != Which::Ask {
+            return self.call(which, &[last, 0]);
         }
-        Ok(())
+        self.call(Which::Ask, &[0, 2, last])?;
+        self.call(Which::Work, &[100])
     }
 
     /// About as many bounds on one side of a variable as are searched for a repeated one.
@@ -153,6 +154,17 @@ impl Play<'_> {
         let side = self.random.below(2) as u32;
         for bound in 1..31 + self.random.below(4) as u32 {
             self.call(Which::PutBound, &[0, side, bound])?;
+        }
+        for _ in 0..8 {
+            let n = self.random.below(36) as u32;
+            let pair = if side == 0 { [0, n, 0] } else { [0, 0, n] };
+            if self.random.chance(50) {
+                self.call(Which::PutBound, &[0, side, n])?;
+            } else {
+                self.call(Which::Ask, &pair)?;
+                self.call(Which::Work, &[100])?;
+                self.call(Which::Abandon, &[])?;
+            }
         }
         Ok(())
     }
@@ -290,8 +302,11 @@ impl Play<'_> {
         for (i, &argument) in which.arguments().iter().enumerate() {
             call.args[i] = self.argument(argument);
         }
-        if which == Which::MakeAttrset {
-            call.extra = self.field_list();
+        match which {
+            Which::MakeAttrset => call.extra = self.field_list(),
+            Which::Ask | Which::AskEqual if self.random.chance(40) => call.args[2] = self.entry_like(call.args[1]),
+            Which::Enter if self.random.chance(2) => self.line(Line::Set(LEVEL, u32::MAX))?,
+            _ => (),
         }
         if which == Which::Start && self.random.chance(50) && self.judge.formed() {
             let image = self.judge.image();
@@ -336,6 +351,22 @@ impl Play<'_> {
             2..=3 => self.near(entries as u32),
             4..=25 => entries.saturating_sub(1) as u32,
             _ => self.random.below(entries) as u32,
+        }
+    }
+
+    /// An entry of the same kind as this one, where there is another.
+    fn entry_like(&mut self, n: u32) -> u32 {
+        let image = self.judge.image();
+        if !self.judge.formed() || n as usize >= count(image, ENTRIES) {
+            return n;
+        }
+        let kind = image[entry_word(image, n, 0)];
+        let like = |&m: &u32| m != n && image[entry_word(image, m, 0)] == kind;
+        let all: Vec<u32> = (0..count(image, ENTRIES) as u32).filter(like).collect();
+        if all.is_empty() {
+            n
+        } else {
+            self.random.of_these(&all)
         }
     }
 

@@ -77,3 +77,13 @@ pub fn push(image: &mut [u32], region: usize, words: &[u32]) {
 pub fn entry_word(image: &[u32], n: u32, word: usize) -> usize {
     offset(image, ENTRIES) + 7 * n as usize + word
 }
+
+pub fn all_entries(image: &[u32]) -> Vec<[u32; 7]> {
+    records(image, ENTRIES, count(image, ENTRIES)).as_chunks().0.to_vec()
+}
+
+pub fn put_entries(image: &mut [u32], entries: &[[u32; 7]]) {
+    let at = offset(image, ENTRIES);
+    image[at..at + 7 * entries.len()].copy_from_slice(entries.as_flattened());
+    image[8 + 3 * ENTRIES] = entries.len() as u32;
+}

@@ -2,12 +2,11 @@
 
 use crate::call::{make, Answer, Call, Lending, Which};
 use crate::case::Line;
-use crate::image::{PENDING, STATE};
 use crate::lent::{Lent, Memory, Pool};
 use crate::model_names::{names_due, operator_due};
 use crate::ordinary::well_formed;
 use crate::tally::Tally;
-use crate::{model, raw, work};
+use crate::{model, raw};
 
 /// What a call did that it must not do.
 pub type Fault = String;
@@ -81,7 +80,7 @@ impl Judge {
                 if let Some(place) = self.lent.image.elements_mut().get_mut(*i) {
                     *place = *word;
                 }
-                self.look()?;
+                self.look(false)?;
             }
             Line::Save => {
                 self.saved.clear();
@@ -106,13 +105,13 @@ impl Judge {
             self.lent.image = self.images.lend(words.len(), self.front, 0);
         }
         self.lent.image.elements_mut().copy_from_slice(words);
-        self.look()
+        self.look(false)
     }
 
-    /// Sees whether the image is well formed, and whether `check` says so.
-    fn look(&mut self) -> Result<(), Fault> {
+    /// Sees whether the image is well formed, and whether `check` says so. `by_call`: a call left it so.
+    fn look(&mut self, by_call: bool) -> Result<(), Fault> {
         self.formed = well_formed(self.lent.image.elements());
-        self.tally.look(self.formed);
+        self.tally.look(by_call, self.formed);
         self.call(&Call::plain(Which::Check))
     }
 
@@ -156,38 +155,23 @@ impl Judge {
         }
         self.due.clear();
         self.due.extend_from_slice(self.lent.image.elements());
-        match model::due(call, &mut self.due, self.formed) {
-            Some(due) => {
-                let answer = self.make(call);
-                same(call, &answer, &due)?;
-                if self.lent.image.elements() != self.due {
-                    return Err(format!("{}: {}", told(call, &answer), difference(self.lent.image.elements(), &self.due)));
-                }
-                if call.which == Which::MakeAttrset && self.lent.fields.elements() != call.extra {
-                    return Err("a word of the field list changed".to_string());
-                }
-                let may_change = !matches!(call.which, Which::Check | Which::Entry | Which::Record | Which::Disjoint);
-                if may_change && due.kind != raw::REFUSED {
-                    self.look_again(call, &answer)?;
-                }
-                Ok(())
-            }
-            None => self.work(call),
+        let due = model::due(call, &mut self.due, self.formed, &mut self.tally.rules);
+        if call.which == Which::Work {
+            self.before.clear();
+            self.before.extend_from_slice(self.lent.image.elements());
         }
-    }
-
-    fn work(&mut self, call: &Call) -> Result<(), Fault> {
-        let budget = call.args[0];
-        self.before.clear();
-        self.before.extend_from_slice(self.lent.image.elements());
         let answer = self.make(call);
-        if answer.values[answer.count.min(8) as usize..].iter().any(|&value| value != 0) {
-            return Err(format!("{}: a value that is not used is not 0", told(call, &answer)));
+        same(call, &answer, &due)?;
+        if self.lent.image.elements() != self.due {
+            return Err(format!("{}: {}", told(call, &answer), difference(self.lent.image.elements(), &self.due)));
         }
-        if let Some(fault) = work::fault(&self.before, self.lent.image.elements(), budget, &answer) {
-            return Err(format!("{}: {fault}", told(call, &answer)));
+        if call.which == Which::MakeAttrset && self.lent.fields.elements() != call.extra {
+            return Err("a word of the field list changed".to_string());
         }
-        self.look_again(call, &answer)?;
+        let reads = matches!(call.which, Which::Check | Which::Entry | Which::Record | Which::Disjoint);
+        if !reads && (answer.kind != raw::REFUSED || answer.steps > 0) {
+            self.look_again(call, &answer)?;
+        }
         if answer.steps > 1 {
             self.in_instalments(call, &answer)?;
         }
@@ -215,13 +199,9 @@ impl Judge {
     }
 
     fn look_again(&mut self, call: &Call, answer: &Answer) -> Result<(), Fault> {
-        self.look()?;
+        self.look(true)?;
         if !self.formed {
             return Err(format!("{}: leaves words that are no well formed image", told(call, answer)));
-        }
-        let (asked, pending) = (self.image()[STATE], self.image()[8 + 3 * PENDING]);
-        if (asked == 1) != (pending > 0) {
-            return Err(format!("{}: pending does not go with the state", told(call, answer)));
         }
         Ok(())
     }

@@ -21,9 +21,9 @@ mod ordinary;
 mod random;
 #[path = "../../../bindings/rust/src/raw.rs"]
 mod raw;
+mod rules;
 mod shrink;
 mod tally;
-mod work;
 
 use case::Line;
 use generate::Play;

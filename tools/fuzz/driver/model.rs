@@ -1,9 +1,10 @@
 //! What each call on an image must answer, and leave in the words, by document 01: written from 01 and the header, not from our code.
-//! What `work` comes to takes the rules and is no part of it (work.rs has what must hold of it).
+//! What a question that is worked comes to stands in rules.rs.
 
 use crate::call::{Answer, Call, Which};
 use crate::image::*;
 use crate::raw;
+use crate::rules::{worked, Hits};
 
 /// 01's refusals.
 pub const BAD_TABLE: u32 = 1;
@@ -32,20 +33,21 @@ pub fn no_room(region: usize) -> Answer {
     Answer::of(raw::REFUSED, NO_ROOM, 0, &[region as u32])
 }
 
-/// What the call answers; `image` becomes what it leaves. `formed`: whether the words are well formed. None: a question is worked.
-pub fn due(call: &Call, image: &mut [u32], formed: bool) -> Option<Answer> {
+/// What the call answers; `image` becomes what it leaves. `formed`: whether the words are well formed. `hits` counts
+/// the rules by which a question is worked.
+pub fn due(call: &Call, image: &mut [u32], formed: bool, hits: &mut Hits) -> Answer {
     let outcome = match call.which {
         Which::Check => Ok(Answer::done(&[formed as u32])),
         Which::Start => start(image, &call.args),
         _ if !formed => refuse(BAD_TABLE),
-        Which::Work if image[STATE] == 1 => return None,
-        Which::Work => refuse(IDLE),
+        Which::Work if image[STATE] == 0 => refuse(IDLE),
+        Which::Work => Ok(worked(image, call.args[0], hits)),
         Which::Abandon => abandon(image),
         Which::Entry | Which::Record | Which::Disjoint => read(call, image),
         _ if image[STATE] == 1 => refuse(BUSY),
         _ => change(call, image),
     };
-    Some(outcome.unwrap_or_else(|refusal| refusal))
+    outcome.unwrap_or_else(|refusal| refusal)
 }
 
 fn start(image: &mut [u32], args: &[u32; 8]) -> Outcome {
@@ -195,8 +197,7 @@ fn attrset(image: &mut [u32], list: &[u32], open: bool, dynamic: Option<u32>) ->
 /// Negation on a list of entries without a limit, which then must fit: room first, then depth.
 fn negation(image: &mut [u32], n: u32) -> Outcome {
     let old = count(image, ENTRIES);
-    let mut entries: Vec<[u32; 7]> =
-        records(image, ENTRIES, old).chunks_exact(7).map(|words| words.try_into().expect("seven words")).collect();
+    let mut entries = all_entries(image);
     let number = negate(&mut entries, n);
     if lacks(image, ENTRIES, entries.len() - old) {
         return Err(no_room(ENTRIES));
@@ -204,13 +205,11 @@ fn negation(image: &mut [u32], n: u32) -> Outcome {
     if entries.iter().any(|entry| entry[5] > MOST_SPREAD) {
         return refuse(TOO_DEEP);
     }
-    let at = offset(image, ENTRIES);
-    image[at..at + 7 * entries.len()].copy_from_slice(entries.as_flattened());
-    image[8 + 3 * ENTRIES] = entries.len() as u32;
+    put_entries(image, &entries);
     Ok(Answer::done(&[number]))
 }
 
-fn negate(entries: &mut Vec<[u32; 7]>, n: u32) -> u32 {
+pub fn negate(entries: &mut Vec<[u32; 7]>, n: u32) -> u32 {
     let [kind, x, y, _, _, own, cached] = entries[n as usize];
     if cached != 0 {
         return cached - 1;
@@ -235,8 +234,7 @@ fn put_bound(image: &mut [u32], variable: u32, side: u32, bound: u32) -> Outcome
         return refuse(BAD_NUMBER);
     }
     variable_there(image, variable)?;
-    let own = records(image, BOUNDS, count(image, BOUNDS)).chunks_exact(3).filter(|b| b[..2] == [variable, side]);
-    if own.clone().count() <= SCANNED && own.clone().any(|b| b[2] == bound) {
+    if listed(image, variable, side, bound) {
         return Ok(Answer::done(&[]));
     }
     if lacks(image, BOUNDS, 1) {
@@ -244,6 +242,12 @@ fn put_bound(image: &mut [u32], variable: u32, side: u32, bound: u32) -> Outcome
     }
     push(image, BOUNDS, &[variable, side, bound]);
     Ok(Answer::done(&[]))
+}
+
+/// Whether the bound stands there already, and is looked for.
+pub fn listed(image: &[u32], variable: u32, side: u32, bound: u32) -> bool {
+    let own = records(image, BOUNDS, count(image, BOUNDS)).chunks_exact(3).filter(|b| b[..2] == [variable, side]);
+    own.clone().count() <= SCANNED && own.clone().any(|b| b[2] == bound)
 }
 
 fn ask(image: &mut [u32], held: bool, (left, right): (u32, u32), both_ways: bool) -> Outcome {
@@ -298,29 +302,33 @@ fn entry(words: &[u32]) -> Vec<u32> {
     }
 }
 
-fn disjoint(image: &[u32], left: usize, right: usize) -> bool {
+pub fn disjoint(image: &[u32], left: usize, right: usize) -> bool {
     let (l, r) = (record(image, ENTRIES, left), record(image, ENTRIES, right));
-    let has_functor = |e: &[u32]| own_fields(image, e).any(|f| f[0] + 1 == image[FUNCTOR]);
     match (l[0], r[0]) {
         (PRIMITIVE, PRIMITIVE) => l[1] != r[1] && !under_number(l[1], r[1]) && !under_number(r[1], l[1]),
         (ATTRSET, ATTRSET) => surely_lacks(image, l, r) || surely_lacks(image, r, l),
-        (ATTRSET, LAMBDA) => !has_functor(l),
-        (LAMBDA, ATTRSET) => !has_functor(r),
+        (ATTRSET, LAMBDA) => !has_functor(image, l),
+        (LAMBDA, ATTRSET) => !has_functor(image, r),
         (PRIMITIVE..=ATTRSET, PRIMITIVE..=ATTRSET) => l[0] != r[0],
         _ => false,
     }
 }
 
-fn own_fields<'a>(image: &'a [u32], attrset: &[u32]) -> impl Iterator<Item = &'a [u32]> {
+pub fn own_fields<'a>(image: &'a [u32], attrset: &[u32]) -> impl Iterator<Item = &'a [u32]> {
     let first = attrset[1] as usize;
     (first..first + attrset[2] as usize).map(|n| record(image, FIELDS, n))
 }
 
+pub fn has_functor(image: &[u32], attrset: &[u32]) -> bool {
+    own_fields(image, attrset).any(|f| f[0] + 1 == image[FUNCTOR])
+}
+
+/// Whether the first is closed and lacks a field of the other that is not optional.
 fn surely_lacks(image: &[u32], closed: &[u32], other: &[u32]) -> bool {
     closed[4] & OPEN == 0 && own_fields(image, other).any(|f| f[2] == 0 && own_fields(image, closed).all(|g| g[0] != f[0]))
 }
 
 /// Int or Float under Number.
-fn under_number(left: u32, right: u32) -> bool {
+pub fn under_number(left: u32, right: u32) -> bool {
     matches!(left, 2 | 3) && right == 7
 }

@@ -2,6 +2,7 @@
 
 use crate::call::{Answer, Which, CALLS, FUNCTIONS};
 use crate::raw;
+use crate::rules::{Hits, RULE_NAMES};
 
 /// The outcomes of a call that are told apart, as places in a row: DONE without a value, with one (or, where the first value is of few
 /// kinds, each of them), YES, MORE, FAILED by number, REFUSED by number, and NO ROOM by region.
@@ -88,15 +89,16 @@ fn label(which: Which, place: u8) -> String {
 #[derive(Default)]
 pub struct Tally {
     met: [[u64; OUTCOMES]; FUNCTIONS],
-    /// Images looked at: not well formed, well formed.
-    looks: [u64; 2],
+    /// Images looked at, as the case set them and as a call left them: not well formed, well formed.
+    looks: [[u64; 2]; 2],
+    pub rules: Hits,
     pub calls: u64,
     pub cases: u64,
 }
 
 impl Tally {
-    pub fn look(&mut self, formed: bool) {
-        self.looks[usize::from(formed)] += 1;
+    pub fn look(&mut self, by_call: bool, formed: bool) {
+        self.looks[usize::from(by_call)][usize::from(formed)] += 1;
     }
 
     /// An answer that no call gives is counted nowhere: it is a fault, and told as one.
@@ -109,15 +111,13 @@ impl Tally {
 
     /// Prints the counts; whether all that is wanted was met.
     pub fn print(&self) -> bool {
-        println!("{} calls, {} cases", self.calls, self.cases);
+        let [[unfit, set], [_, left]] = self.looks;
+        println!("{} calls, {} of them check after a change; {} cases", self.calls, unfit + set + left, self.cases);
         println!(
-            "{} images looked at, {} well formed and {} not; each one a call of check too",
-            self.looks[0] + self.looks[1],
-            self.looks[1],
-            self.looks[0]
+            "images as a case set them: {set} well formed, {unfit} not; as an accepted call left them: {left}, all well formed"
         );
-        println!("calls by answer: done, value (the first value where it is of few kinds), yes, more, failed by number, then the");
-        println!("refusals by number, NO ROOM with its region");
+        println!("calls by answer: done, value (the first one where it is of few kinds), yes, more, failed by number; refusals by number,");
+        println!("NO ROOM with its region");
         let mut whole = true;
         for (which, name, _) in CALLS {
             let row = &self.met[which as usize];
@@ -129,6 +129,11 @@ impl Tally {
                 parts.push(format!("{}: {count}", label(which, place)));
             }
             println!("  {name:15}{:>12}   {}", row.iter().sum::<u64>(), parts.join(", "));
+        }
+        println!("pairs worked, by the rule that the model took:");
+        for (name, hits) in RULE_NAMES.iter().zip(self.rules) {
+            whole &= hits > 0;
+            println!("  {name:38}{}", if hits > 0 { hits.to_string() } else { "NEVER".to_string() });
         }
         whole
     }
