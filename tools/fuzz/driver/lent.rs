@@ -2,12 +2,18 @@
 //! sanitizer's malloc; `Guarded` puts a page that cannot be touched right before the first element or right after the last.
 
 use std::collections::HashMap;
-use std::ffi::{c_int, c_long, c_void};
+use std::ffi::{c_char, c_int, c_long, c_void};
 
 extern "C" {
     fn malloc(size: usize) -> *mut c_void;
     fn mmap(at: *mut c_void, size: usize, rights: c_int, flags: c_int, file: c_int, offset: c_long) -> *mut c_void;
     fn mprotect(at: *mut c_void, size: usize, rights: c_int) -> c_int;
+}
+
+/// What the address sanitizer asks when it starts: wide red zones, and nothing said of memory that is never given back.
+#[no_mangle]
+pub extern "C" fn __asan_default_options() -> *const c_char {
+    c"redzone=512:detect_leaks=0".as_ptr()
 }
 
 // Linux on x86-64.

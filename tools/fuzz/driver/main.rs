@@ -97,7 +97,7 @@ fn run(memory: &str, calls: &str, seeds: &[&str]) -> Option<()> {
     else {
         exit(1);
     };
-    println!("FAULT in seed {seed}, case {case}, after {calls} calls and {:.1} s", start.elapsed().as_secs_f64());
+    println!("FAULT in seed {seed}, case {case}, begun after {calls} calls and found in {:.1} s", start.elapsed().as_secs_f64());
     shrink::case_of(memory, &seed.to_string(), &case.to_string());
     exit(1);
 }

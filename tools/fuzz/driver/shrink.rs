@@ -1,13 +1,13 @@
-//! Makes a failing case smaller. A fault may end the program, so each try is a program of its own; it fails where its status is not 0.
+//! Makes a failing case smaller. A fault may end the program, so each try is a program of its own.
 
 use crate::case::{parse, Line};
 use std::io::Write;
 use std::process::{Command, Output, Stdio};
 
-/// This program again, with the sanitizer told to keep wide red zones.
+/// This program again.
 pub fn own_program(args: &[&str]) -> Command {
     let mut command = Command::new(std::env::current_exe().expect("the driver's path"));
-    command.args(args).env("ASAN_OPTIONS", "detect_leaks=0:redzone=512:allocator_may_return_null=0");
+    command.args(args);
     command
 }
 
@@ -25,15 +25,16 @@ pub fn from_input(memory: &str) -> Option<()> {
 }
 
 fn shrink(memory: &str, mut lines: Vec<Line>) {
-    if !fails(memory, &lines) {
+    let Some(fault) = fault(memory, &lines) else {
         println!("the case does not fail when it is repeated by itself:");
         lines.iter().for_each(|line| println!("{line}"));
         return;
-    }
+    };
+    let fails = |lines: &[Line]| self::fault(memory, lines).as_ref() == Some(&fault);
     loop {
         let before = lines.len();
-        lines = with_fewer_lines(memory, lines);
-        let simpler = with_simpler_lines(memory, &mut lines);
+        lines = with_fewer_lines(lines, &fails);
+        let simpler = with_simpler_lines(&mut lines, &fails);
         if lines.len() == before && !simpler {
             break;
         }
@@ -44,20 +45,32 @@ fn shrink(memory: &str, mut lines: Vec<Line>) {
     println!("{}", if said.stderr.is_empty() { format!("ended by {}", said.status) } else { head(&said.stderr) });
 }
 
+/// What kind of fault a case ends with, if any: what the sanitizer calls it, or the call that did it, or how the program ended.
+fn fault(memory: &str, lines: &[Line]) -> Option<String> {
+    let output = tried(memory, lines);
+    if output.status.success() {
+        return None;
+    }
+    let said = String::from_utf8_lossy(&output.stderr);
+    let by_sanitizer = said.split("AddressSanitizer: ").nth(1);
+    let word = by_sanitizer.unwrap_or(&said).split_whitespace().next();
+    Some(word.map_or_else(|| output.status.to_string(), str::to_string))
+}
+
 /// The first lines of what was said, which name the fault.
 fn head(said: &[u8]) -> String {
     String::from_utf8_lossy(said).lines().take(8).collect::<Vec<_>>().join("\n")
 }
 
 /// Leaves out runs of lines, long ones first.
-fn with_fewer_lines(memory: &str, mut lines: Vec<Line>) -> Vec<Line> {
+fn with_fewer_lines(mut lines: Vec<Line>, fails: &dyn Fn(&[Line]) -> bool) -> Vec<Line> {
     let mut run = lines.len() / 2;
     while run > 0 {
         let mut at = lines.len().saturating_sub(run);
         loop {
             let mut fewer = lines.clone();
             fewer.drain(at..(at + run).min(lines.len()));
-            if fails(memory, &fewer) {
+            if fails(&fewer) {
                 lines = fewer;
             }
             if at == 0 {
@@ -70,13 +83,13 @@ fn with_fewer_lines(memory: &str, mut lines: Vec<Line>) -> Vec<Line> {
     lines
 }
 
-fn with_simpler_lines(memory: &str, lines: &mut [Line]) -> bool {
+fn with_simpler_lines(lines: &mut [Line], fails: &dyn Fn(&[Line]) -> bool) -> bool {
     let mut any = false;
     for i in 0..lines.len() {
         for simpler in lines[i].simpler() {
             let mut tried = lines.to_vec();
             tried[i] = simpler.clone();
-            if fails(memory, &tried) {
+            if fails(&tried) {
                 lines[i] = simpler;
                 any = true;
                 break;
@@ -84,10 +97,6 @@ fn with_simpler_lines(memory: &str, lines: &mut [Line]) -> bool {
         }
     }
     any
-}
-
-fn fails(memory: &str, lines: &[Line]) -> bool {
-    !tried(memory, lines).status.success()
 }
 
 fn tried(memory: &str, lines: &[Line]) -> Output {
