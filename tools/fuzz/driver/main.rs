@@ -10,7 +10,9 @@
 mod call;
 mod case;
 mod generate;
+mod generate_calls;
 mod generate_names;
+mod generate_words;
 mod image;
 mod judge;
 mod lent;
@@ -84,7 +86,8 @@ fn run(memory: &str, calls: &str, seeds: &[&str]) -> Option<()> {
     let place = std::env::temp_dir().join(format!("sheafwinch-fuzz-{}", std::process::id()));
     let name = place.to_str()?;
     let start = Instant::now();
-    let status = shrink::own_program(&[&["try", memory, calls, name], seeds].concat()).status().expect("the driver again");
+    let mut child = shrink::own_program(&[&["try", memory, calls, name], seeds].concat()).spawn().expect("the driver again");
+    let status = shrink::ended(&mut child, || std::fs::read(&place).unwrap_or_default());
     let at = std::fs::read(&place).unwrap_or_default();
     std::fs::remove_file(&place).ok();
     if status.success() {
@@ -97,7 +100,8 @@ fn run(memory: &str, calls: &str, seeds: &[&str]) -> Option<()> {
     else {
         exit(1);
     };
-    println!("FAULT in seed {seed}, case {case}, begun after {calls} calls and found in {:.1} s", start.elapsed().as_secs_f64());
+    let seconds = start.elapsed().as_secs_f64();
+    println!("FAULT in seed {seed}, case {case}: the case began after {calls} calls, found in {seconds:.1} s");
     shrink::case_of(memory, &seed.to_string(), &case.to_string());
     exit(1);
 }

@@ -2,7 +2,12 @@
 
 use crate::case::{parse, Line};
 use std::io::Write;
-use std::process::{Command, Output, Stdio};
+use std::process::{Child, Command, ExitStatus, Output, Stdio};
+use std::thread::sleep;
+use std::time::{Duration, Instant};
+
+/// A case takes a hundredth of a second at most: one that takes so long does not end.
+const LONGEST: Duration = Duration::from_secs(20);
 
 /// This program again.
 pub fn own_program(args: &[&str]) -> Command {
@@ -11,9 +16,26 @@ pub fn own_program(args: &[&str]) -> Command {
     command
 }
 
+/// How the program ends. It is ended here where `at` tells the same thing for too long.
+pub fn ended(child: &mut Child, at: impl Fn() -> Vec<u8>) -> ExitStatus {
+    let (mut last, mut since) = (Vec::new(), Instant::now());
+    loop {
+        if let Some(status) = child.try_wait().expect("its status") {
+            return status;
+        }
+        let now = at();
+        if now != last {
+            (last, since) = (now, Instant::now());
+        } else if since.elapsed() > LONGEST {
+            child.kill().ok();
+        }
+        sleep(Duration::from_millis(1));
+    }
+}
+
 /// Shrinks a case of a run, which the driver makes again and prints.
 pub fn case_of(memory: &str, seed: &str, case: &str) {
-    let output = own_program(&["lines", memory, seed, case]).output().expect("the driver again");
+    let output = said(&["lines", memory, seed, case], &[]);
     let text = String::from_utf8_lossy(&output.stdout);
     shrink(memory, text.lines().filter_map(parse).collect());
 }
@@ -100,14 +122,16 @@ fn with_simpler_lines(lines: &mut [Line], fails: &dyn Fn(&[Line]) -> bool) -> bo
 }
 
 fn tried(memory: &str, lines: &[Line]) -> Output {
-    let mut child = own_program(&["repeat", memory])
-        .stdin(Stdio::piped())
-        .stdout(Stdio::piped())
-        .stderr(Stdio::piped())
-        .spawn()
-        .expect("the driver again");
     let text: String = lines.iter().map(|line| format!("{line}\n")).collect();
+    said(&["repeat", memory], text.as_bytes())
+}
+
+/// What this program says when it is run with the arguments and the input, and how it ends.
+fn said(args: &[&str], input: &[u8]) -> Output {
+    let mut child =
+        own_program(args).stdin(Stdio::piped()).stdout(Stdio::piped()).stderr(Stdio::piped()).spawn().expect("the driver again");
     // a program that ended before it read all is seen by its status
-    child.stdin.take().expect("its input").write_all(text.as_bytes()).ok();
+    child.stdin.take().expect("its input").write_all(input).ok();
+    ended(&mut child, Vec::new);
     child.wait_with_output().expect("its status")
 }
