@@ -98,7 +98,7 @@ impl Play<'_> {
                 ample[random.below(6)] = random.below(3) as u32;
                 ample
             }
-            Profile::Deep => [14 + random.below(30) as u32, 2, 4, 20, 6, 1],
+            Profile::Deep => [28 + random.below(20) as u32, 2, 4, 20, 6, 1],
             Profile::ManyBounds => [36 + random.below(4) as u32, 0, 33 + random.below(12) as u32, 40, 40, 1],
             Profile::Large => {
                 let mut large = [1; 6];
@@ -128,26 +128,36 @@ impl Play<'_> {
         self.call(Which::Start, &start_args(names, functor, capacities))
     }
 
-    /// A variable met with a primitive, and unions that double.
+    /// A tree of unions, with about as many leaves as can be made, negated, or joined with a negation by the rule for a meet.
     fn deep(&mut self) -> Played {
         self.call(Which::MakeVariable, &[])?;
-        let primitive = self.random.below(8) as u32;
-        self.call(Which::MakePrimitive, &[primitive])?;
+        self.call(Which::MakePrimitive, &[2])?;
         self.call(Which::MakeInter, &[0, 1])?;
-        let kind = self.random.of_these(&[Which::MakeUnion, Which::MakeInter]);
-        let mut last = self.random.below(3) as u32;
-        for next in 3..4 + self.random.below(10) as u32 {
-            self.call(kind, &[last, last])?;
-            last = next;
+        let leaf = self.random.of_these(&[Which::MakePrimitive, Which::MakeNeg, Which::MakeNamed]);
+        self.call(leaf, &[1, 0])?;
+        let kind = if self.random.chance(75) { Which::MakeUnion } else { Which::MakeInter };
+        let mut rest = self.random.of_these(&[341, 342, 343, 510, 511, 512]) - 1;
+        // the tree, and one with 1, 2, 4, .. leaves; the next entry's number
+        let (mut tree, mut power, mut next) = (3, 1, 4);
+        while rest > 0 {
+            if rest % 2 == 1 {
+                self.call(kind, &[power, tree])?;
+                (tree, next) = (next, next + 1);
+            }
+            rest /= 2;
+            if rest > 0 {
+                self.call(kind, &[power, power])?;
+                (power, next) = (next, next + 1);
+            }
         }
         match self.random.below(3) {
-            0 => self.call(Which::MakeNeg, &[last]),
+            0 => self.call(Which::MakeNeg, &[tree]),
             1 => {
-                self.call(Which::MakeNamed, &[last, 0])?;
-                self.call(Which::MakeNamed, &[last + 1, 0])
+                self.call(Which::MakeNamed, &[tree, 0])?;
+                self.call(Which::MakeNamed, &[next, 0])
             }
             _ => {
-                self.call(Which::Ask, &[0, 2, last])?;
+                self.call(Which::Ask, &[0, 2, tree])?;
                 self.call(Which::Work, &[100])
             }
         }
