@@ -49,12 +49,23 @@ impl Play<'_> {
             Which::Enter if self.random.chance(2) => self.line(Line::Set(LEVEL, u32::MAX))?,
             _ => (),
         }
-        if which == Which::Start && self.random.chance(50) && self.judge.formed() {
-            let image = self.judge.image();
-            let room: [u32; 6] = std::array::from_fn(|k| image[10 + 3 * k]);
-            call.args = start_args(image[NAMES], image[FUNCTOR], &room);
+        if which == Which::Start && self.random.chance(70) {
+            call.args = self.start_that_fits();
         }
         self.line(Line::Call(call))
+    }
+
+    /// Capacities that come to as many words as there are, from 27 on: those of the image, if it is one.
+    fn start_that_fits(&self) -> [u32; 8] {
+        let image = self.judge.image();
+        if self.judge.formed() {
+            let capacities = std::array::from_fn(|k| capacity(image, k + 1) as u32);
+            return start_args(image[NAMES], image[FUNCTOR], &capacities);
+        }
+        // a field has 3 words, an equal 2
+        let words = image.len().saturating_sub(HEADER) as u32;
+        let fields = words % 2;
+        start_args(3, 1, &[0, fields, 0, 0, 0, words.saturating_sub(3 * fields) / 2])
     }
 
     pub fn argument(&mut self, argument: Argument) -> u32 {

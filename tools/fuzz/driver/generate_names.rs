@@ -73,10 +73,15 @@ fn encoded(names: &[Vec<u8>]) -> Vec<u8> {
 }
 
 fn any_bytes(play: &mut Play) -> Vec<u8> {
-    if play.random.below(400) == 0 {
+    match play.random.below(800) {
         // as many names as there may be, or one more
-        let names: Vec<Vec<u8>> = (0..4096 + play.random.below(2) as u16).map(|n| n.to_be_bytes().to_vec()).collect();
-        return encoded(&names);
+        0..=1 => {
+            let names: Vec<Vec<u8>> = (0..4096 + play.random.below(2) as u16).map(|n| n.to_be_bytes().to_vec()).collect();
+            return encoded(&names);
+        }
+        // no name, and as many bytes as 16 bits tell from none
+        2 => return vec![0; 4 + 65536],
+        _ => (),
     }
     let length = play.random.of_these(&[0, 1, 2, 3, 4, 5, 6, 12, 40]);
     (0..length).map(|_| if play.random.chance(70) { play.random.below(4) as u8 } else { play.random.word() as u8 }).collect()

@@ -6,7 +6,7 @@ use std::process::{Child, Command, ExitStatus, Output, Stdio};
 use std::thread::sleep;
 use std::time::{Duration, Instant};
 
-/// A case takes a hundredth of a second at most: one that takes so long does not end.
+/// A case takes a small part of a second: one that takes so long does not end.
 const LONGEST: Duration = Duration::from_secs(20);
 
 /// This program again.
