@@ -18,12 +18,30 @@ impl Play<'_> {
                     let length = self.judge.image().len() + 1 + self.random.below(8);
                     self.line(Line::Length(length))?;
                 }
+                2 => self.broken()?,
                 _ => self.changed()?,
             }
         }
         let calls = 1 + self.random.below(5);
         self.few_calls(calls)?;
         self.line(Line::Restore)
+    }
+
+    /// The break words, each next to its limit or 0: a kind, a pair of entries, a name.
+    fn broken(&mut self) -> Played {
+        let image = self.judge.image();
+        if image.len() < HEADER {
+            return Ok(());
+        }
+        let (entries, names) = (count(image, 1) as u32, image[7]);
+        for (i, limit) in [(2, 3), (3, entries), (4, entries), (5, names)] {
+            let word = match self.random.below(4) {
+                0 => 0,
+                near => limit.wrapping_add(near as u32).wrapping_sub(3),
+            };
+            self.line(Line::Set(i, word))?;
+        }
+        Ok(())
     }
 
     /// One word changed: of the header, of a record, or any.
