@@ -1,11 +1,10 @@
 // A name's bytes in a label. What is shown has printable ASCII alone and tells the name exactly: a backslash is shown as two, and each
 // byte that is not printable as \xNN. Between DOT's quotes a backslash is written twice and a quote behind one; an ampersand would
 // begin one of HTML's characters.
+use libc::STDOUT_FILENO;
 use model::Reply;
 use telling::print;
 use telling::print_number;
-
-const HEX: [u8; 16] = *b"0123456789ABCDEF";
 
 // A name, or its number where the list has no such name.
 pub fn print_name(list: &[u8], n: u32) {
@@ -50,6 +49,5 @@ fn print_plain(b: u8) {
 // A byte that is shown as \xNN.
 fn print_hex(b: u8) {
     print(b"\\\\x");
-    print_plain(HEX[(b / 16) as usize]);
-    print_plain(HEX[(b % 16) as usize]);
+    io::print_hex(STDOUT_FILENO, b as u64, 2);
 }

@@ -23,7 +23,7 @@ pub fn read(fd: i32, desk: &mut [u32; 10256], text: &[u8], word: Word) -> Arg {
     match number_in(bytes) {
         Number::Value(n) => Arg::Number(n),
         Number::Large => told(fd, desk, bytes, b"is over 4294967295"),
-        Number::Wrong => told(fd, desk, bytes, b"is no number"),
+        Number::Wrong => told(fd, desk, bytes, b"is no number from 0 to 4294967295"),
     }
 }
 

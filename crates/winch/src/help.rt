@@ -8,7 +8,8 @@ pub fn print_help(fd: i32) {
         fd,
         b"
 A script has one verb to a line; # begins a comment. It has at most 1048576 bytes. A, B, E and V are entry numbers, from 0 on.
-Every answer is one line. A line that is wrong is told with its number and why; it changes nothing, and the next line is run.
+An answer is one line; but dump, dumps, dot and help print several, and new, mark, bound, level, setlevel, limit, plain and echo
+say nothing when done. A line that is wrong is told with its number and why; it changes nothing, and the next line is run.
 
 ",
     );
@@ -21,7 +22,7 @@ fn print_refusals(fd: i32) {
     print(
         fd,
         b"
-A refusal is an answer, and changes nothing in the table:
+A refusal is an answer, and changes nothing in the table but by the steps that it tells:
 refused 2 BAD NUMBER       an entry, name or record that is not there; a primitive, side, region or operator that is none
 refused 3 BUSY             a question is open: work or abandon it first
 refused 4 IDLE             no question is open
@@ -43,11 +44,12 @@ pub fn print_usage(fd: i32) {
         fd,
         b"usage: winch                run the script that comes by standard input
        winch FILE           run the script of a file; - is standard input
-       winch dot FILE       the same, answers on standard error; then its last table as a graph for Graphviz
+       winch dot FILE       the same, answers on standard error; then its last table as a graph for Graphviz;
+                            dot alone: of standard input
        winch incident       run the example: a request that lacks a field, a check that is timed out, a shape
                             that meets its own bound
        winch show incident  print the example's script
-       winch help           print this
+       winch help           print this; also --help and -h
 ",
     );
 }
@@ -66,7 +68,8 @@ fn print_tables(fd: i32) {
     print(
         fd,
         b"new                 an empty table of the largest capacities; a script starts with one
-start E F B V P Q   an empty table that takes so many entries, fields, bounds, visited pairs, pending pairs, equals
+start ENTRIES FIELDS BOUNDS VISITED PENDING EQUALS
+                    an empty table that takes so many entries, fields, bounds, visited pairs, pending pairs, equals
 names NAME..        the name list of the tables after this; names alone: a table's own field names, as without it
 ",
     );
@@ -80,8 +83,10 @@ fn print_makes(fd: i32) {
 prim P              a primitive: 0 Null, 1 Bool, 2 Int, 3 Float, 4 String, 5 Path, 6 Uri, 7 Number
 list E              a list of E
 lambda A B          a lambda from A to B
-attr O D N (NAME E OPT)..   an attrset of N fields, at most 4096; open if O is 1; D is its dynamic type, or -1; OPT 1: optional
-named E LABEL       E with a label, a number or a word; a table takes at most 1024 label words
+attr OPEN DYN N (NAME E OPT)..
+                    an attrset of N fields, at most 4096; OPEN 1: open; DYN: its dynamic type, or -1; OPT 1: optional
+named E LABEL       E with a label, a number or a word; a table takes at most 1024 label words, and record and dot
+                    show them as numbers, from 4294901760 on
 neg E               the negation of E
 inter A B           the intersection of A and B
 union A B           the union of A and B
@@ -99,11 +104,12 @@ setlevel V N        sets the level of the variable V
 fn print_questions(fd: i32) {
     print(
         fd,
-        b"ask A B             whether A fits under B: yes, mismatch SUB SUP, or missing SUB SUP NAME, with steps N
-equal A B           whether A and B fit under each other
+        b"ask A B             whether A fits under B: yes steps N, missing SUB SUP NAME steps N,
+                    or mismatch SUB SUP steps N [SUB'S ENTRY] [SUP'S]; every 10000 steps are told on standard error
+equal A B           whether A and B fit under each other; answers as ask
 held ask A B        the same, refused once a question in this table has failed; also held equal
 open ask A B        only asks, for work; also open equal, held open ask, held open equal
-work N              works the open question N steps more at most; work alone: to its end
+work N              works the open question N steps more at most; answers as ask, or more steps N; work alone: to its end
 abandon             gives the open question up; one that was refused 5 or 6 is open until then
 limit N             at most N steps for each ask and equal after this: more, and the question is given up; -1: no limit
 plain 1             leaves the limit aside from here on; 0: back
@@ -119,7 +125,7 @@ fn print_reads(fd: i32) {
 record REGION N     record N of entries, fields, bounds, visited, pending or equals (or 1 to 6), word by word
 state               the table's header: idle or asked, level, break, names, and each region's count/capacity
 count               how many entries, bounds and visited pairs there are
-disjoint A B        whether A and B share no value: 1 or 0
+disjoint A B        1 if A and B are disjoint by the rule of shapes; 0 if that is not known
 op OP L R           operator 0 add, 1 sub, 2 mul, 3 div on primitives: result, from the left alone, bound at once; -1 none
 name N              name N of the table's list
 find NAME           the number of a name

@@ -149,12 +149,7 @@ fn obey_question(
         return wrong(fd, desk, b"held and open stand before ask or equal");
     }
     if !is_question(number) {
-        return wrong_after(
-            fd,
-            desk,
-            b"held and open stand before ask or equal, not before",
-            bytes_of(text, verb),
-        );
+        return tell_misplaced(fd, desk, bytes_of(text, verb));
     }
     let mut args = [0u32; 6];
     if !read_all(fd, desk, text, verb, 2, &mut args) {
@@ -168,6 +163,21 @@ fn obey_question(
         right: args[1],
     };
     ask_table(fd, text, desk, list, words, q);
+}
+
+// A word that is neither ask nor equal, behind held or open.
+fn tell_misplaced(fd: i32, desk: &mut [u32; 10256], word: &[u8]) {
+    let is_held = is(word, b"held");
+    let is_open = is(word, b"open");
+    if is_held | is_open {
+        return wrong(fd, desk, b"held stands before open, each once");
+    }
+    wrong_after(
+        fd,
+        desk,
+        b"held and open stand before ask or equal, not before",
+        word,
+    );
 }
 
 // Asks in the table's words, and with its names.
@@ -304,7 +314,8 @@ fn obey_words(
         verbs::FIND => tell_found(fd, desk, text, names, verb),
         verbs::RECORD => tell_record(fd, text, desk, names, words, verb),
         verbs::WORK => obey_work(fd, text, desk, names, words, verb),
-        _ => set_limit(fd, text, desk, verb),
+        verbs::LIMIT => set_limit(fd, text, desk, verb),
+        _ => {}
     }
 }
 
@@ -405,7 +416,9 @@ fn obey_reads(
         verbs::COMPARE => tell_compared(fd, names, args[0], args[1]),
         verbs::CHECK => tell_check(fd, words),
         verbs::DOT => drawing::draw(names, words),
-        _ => dump(fd, text, desk, names, words, number == verbs::DUMPS),
+        verbs::DUMP => dump(fd, text, desk, names, words, false),
+        verbs::DUMPS => dump(fd, text, desk, names, words, true),
+        _ => {}
     }
 }
 
@@ -415,6 +428,7 @@ fn obey_settings(fd: i32, desk: &mut [u32; 10256], number: u32, n: u32) {
         verbs::PLAIN => desk[IS_PLAIN] = n,
         verbs::ECHO => desk[ECHO] = n,
         verbs::TIME => tell_time(desk),
-        _ => print_verbs(fd),
+        verbs::HELP => print_verbs(fd),
+        _ => {}
     }
 }

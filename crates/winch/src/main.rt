@@ -1,4 +1,4 @@
-// The command line of the engine: runs a script, one verb to a line, and prints one line an answer.
+// The command line of the engine: runs a script, one verb to a line, and prints its answers.
 mod answers;
 mod args;
 mod attrsets;
@@ -71,13 +71,30 @@ fn obey(first: &[u8], count: usize) {
 
 // One argument.
 fn obey_one(word: &[u8]) {
-    if is(word, b"help") {
+    if asks_help(word) {
         return print_help(STDOUT_FILENO);
     }
     if is(word, b"incident") {
         return tell_incident(false);
     }
+    if is(word, b"dot") {
+        return run_path(STDERR_FILENO, b"-", true);
+    }
+    if is(word, b"show") {
+        return print_usage(STDERR_FILENO);
+    }
     run_path(STDOUT_FILENO, word, false);
+}
+
+// Whether an argument asks for help.
+fn asks_help(word: &[u8]) -> bool {
+    if is(word, b"help") {
+        return true;
+    }
+    if is(word, b"--help") {
+        return true;
+    }
+    is(word, b"-h")
 }
 
 // Two arguments.
@@ -116,7 +133,7 @@ fn run_path(fd: i32, path: &[u8], is_drawn: bool) {
 fn run_input(fd: i32, input: i32, path: &[u8], is_drawn: bool) {
     let mut script = script_room();
     let size = fill(input, &mut script);
-    if size == 0 {
+    if size <= SCRIPT_MOST {
         if is_unreadable(input) {
             return fail(path);
         }
@@ -129,7 +146,7 @@ fn fill(input: i32, script: &mut [u8; 1048577]) -> usize {
     io::read_full(input, script)
 }
 
-// Whether a file cannot be read.
+// Whether a file cannot be read further: where it has ended, it can.
 fn is_unreadable(input: i32) -> bool {
     let mut byte = [0u8; 1];
     libc::read(input, &mut byte) < 0

@@ -17,10 +17,9 @@ use model::Failure;
 use model::Instalment;
 use model::Refusal;
 use model::Reply;
-ghost use Prim.Native.Nat.{_<_};
 
 // The steps of an instalment, where a question is worked to its end.
-const INSTALMENT: u32 = 100000;
+const INSTALMENT: u32 = 10000;
 
 // The largest budget.
 pub const ALL: u32 = 4294967295;

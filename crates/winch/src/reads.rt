@@ -26,8 +26,8 @@ use model::EntryRead;
 use model::Record;
 use operators::Resolved;
 
-// As many regions as there are.
-const REGIONS: u32 = 6;
+// As many regions as there are: the number of the last.
+const REGIONS: u32 = image::EQUALS;
 
 // `entry N`: an entry, as a dump shows it.
 pub fn tell_entry(fd: i32, text: &[u8], desk: &[u32; 10256], names: &[u8], words: &[u32], n: u32) {
@@ -183,13 +183,48 @@ pub fn tell_state(fd: i32, names: &[u8], words: &[u32]) {
     print_broken(fd, names, words);
     print_word(fd, b"names", word(words, image::NAMES_AT));
     print_word(fd, b"functor", word(words, image::FUNCTOR_AT));
-    print_count(fd, b" entries ", words, image::ENTRIES_COUNT_AT);
-    print_count(fd, b" fields ", words, image::FIELDS_COUNT_AT);
-    print_count(fd, b" bounds ", words, image::BOUNDS_COUNT_AT);
-    print_count(fd, b" visited ", words, image::VISITED_COUNT_AT);
-    print_count(fd, b" pending ", words, image::PENDING_COUNT_AT);
-    print_count(fd, b" equals ", words, image::EQUALS_COUNT_AT);
+    print_regions(fd, words);
     print(fd, b"\n");
+}
+
+// Each region's count and capacity.
+fn print_regions(fd: i32, words: &[u32]) {
+    print_count(
+        fd,
+        b" entries ",
+        word(words, image::ENTRIES_COUNT_AT),
+        word(words, image::ENTRIES_CAPACITY_AT),
+    );
+    print_count(
+        fd,
+        b" fields ",
+        word(words, image::FIELDS_COUNT_AT),
+        word(words, image::FIELDS_CAPACITY_AT),
+    );
+    print_count(
+        fd,
+        b" bounds ",
+        word(words, image::BOUNDS_COUNT_AT),
+        word(words, image::BOUNDS_CAPACITY_AT),
+    );
+    print_count(
+        fd,
+        b" visited ",
+        word(words, image::VISITED_COUNT_AT),
+        word(words, image::VISITED_CAPACITY_AT),
+    );
+    print_count(
+        fd,
+        b" pending ",
+        word(words, image::PENDING_COUNT_AT),
+        word(words, image::PENDING_CAPACITY_AT),
+    );
+    print_count(
+        fd,
+        b" equals ",
+        word(words, image::EQUALS_COUNT_AT),
+        word(words, image::EQUALS_CAPACITY_AT),
+    );
 }
 
 // The break words.
@@ -209,14 +244,12 @@ fn print_broken(fd: i32, names: &[u8], words: &[u32]) {
     );
 }
 
-// A region's count and capacity, which stands before it.
-fn print_count(fd: i32, name: &[u8], words: &[u32], at: usize) {
+// A region's count and capacity.
+fn print_count(fd: i32, name: &[u8], count: u32, capacity: u32) {
     print(fd, name);
-    print_number(fd, word(words, at));
+    print_number(fd, count);
     print(fd, b"/");
-    if 0 < at {
-        print_number(fd, word(words, at - 1));
-    }
+    print_number(fd, capacity);
 }
 
 // `count`: how many entries, bounds and visited pairs there are.

@@ -37,7 +37,7 @@ fn print_named(fd: i32, text: &[u8], desk: &[u32; 10256], inner: u32, label: u32
 // An attrset: whether it is open, its dynamic type, its fields.
 fn print_attrset(fd: i32, names: &[u8], words: &[u32], n: u32) {
     let flags = entry_word(words, n, image::FLAGS_WORD);
-    print_next(fd, flags / image::OPEN_FLAG % 2);
+    print_flag(fd, image::says_open(flags));
     print_dynamic(fd, flags, entry_word(words, n, image::Z_WORD));
     let first = entry_word(words, n, image::X_WORD);
     let count = entry_word(words, n, image::Y_WORD);
@@ -47,10 +47,19 @@ fn print_attrset(fd: i32, names: &[u8], words: &[u32], n: u32) {
 
 // A dynamic type, -1 where there is none.
 fn print_dynamic(fd: i32, flags: u32, dynamic: u32) {
-    if flags < image::DYNAMIC_FLAG {
-        print(fd, b" -1");
-    } else {
+    if image::says_dynamic(flags) {
         print_next(fd, dynamic);
+    } else {
+        print(fd, b" -1");
+    }
+}
+
+// What a flag says: 1 or 0.
+fn print_flag(fd: i32, is_set: bool) {
+    if is_set {
+        print(fd, b" 1");
+    } else {
+        print(fd, b" 0");
     }
 }
 
@@ -79,7 +88,10 @@ pub fn tell_entry(fd: i32, text: &[u8], desk: &[u32; 10256], names: &[u8], words
     print(fd, b"e");
     print_next(fd, n);
     print(fd, b" m");
-    print_next(fd, entry_word(words, n, image::FLAGS_WORD) % 2);
+    print_flag(
+        fd,
+        image::says_mark(entry_word(words, n, image::FLAGS_WORD)),
+    );
     print(fd, b" n");
     print_negation(fd, entry_word(words, n, image::NEGATION_WORD));
     print(fd, b" : ");

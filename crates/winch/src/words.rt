@@ -1,4 +1,4 @@
-// The table's words as they stand: what is shown of a table is read here, after one check, and not by a call for each record.
+// The table is the program's own and every call leaves it well formed, so its words are read as they stand.
 ghost use mathlib.Core.Path.{_≡_};
 ghost use Prim.Native.Nat.{_≤_};
 ghost use lib.ListN.{length};
