@@ -17,6 +17,9 @@ pub const LABELS: usize = 4;
 // How many names were given.
 pub const GIVEN: usize = 5;
 
+// How many were when the table was started: its list is made of them, if there are any.
+pub const TABLE_GIVEN: usize = 11;
+
 // Whether questions have a limit, and which; whether it is left aside.
 pub const IS_LIMITED: usize = 6;
 

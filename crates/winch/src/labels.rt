@@ -27,8 +27,8 @@ pub enum Label {
     Full,
 }
 
-// The number of a label.
-pub fn label_number(text: &[u8], desk: &mut [u32; 10256], word: Word) -> Label {
+// The number of a label; a new word gets the next, and is not kept.
+pub fn label_number(text: &[u8], desk: &[u32; 10256], word: Word) -> Label {
     let bytes = bytes_of(text, word);
     if is_padded(bytes) {
         return label_word(text, desk, word);
@@ -53,16 +53,24 @@ fn is_padded(bytes: &[u8]) -> bool {
     bytes[0] == b'0'
 }
 
-// The number of a label word, which is kept if it is new.
-fn label_word(text: &[u8], desk: &mut [u32; 10256], word: Word) -> Label {
+// The number of a label word.
+fn label_word(text: &[u8], desk: &[u32; 10256], word: Word) -> Label {
     let at = find(text, desk, bytes_of(text, word));
     if MOST <= at {
         return Label::Full;
     }
+    Label::Number(std::num::wrapping_add_u32(FIRST, at))
+}
+
+// Keeps the word of a label's number, if it is new.
+pub fn keep_new(desk: &mut [u32; 10256], number: u32, word: Word) {
+    if number < FIRST {
+        return;
+    }
+    let at = number - FIRST;
     if desk[LABELS] == at {
         keep_label(desk, at, word);
     }
-    Label::Number(std::num::wrapping_add_u32(FIRST, at))
 }
 
 // Keeps a new label word.

@@ -1,8 +1,10 @@
 // The verbs that start a table.
 use crate::answers::tell_number;
 use crate::answers::tell_refusal;
+use crate::desk::GIVEN;
 use crate::desk::LABELS;
 use crate::desk::LIST;
+use crate::desk::TABLE_GIVEN;
 use crate::desk::WORDS;
 use crate::labels::narrow;
 use crate::name_lists::count_of;
@@ -107,6 +109,7 @@ fn start_table(
     }
     let bytes = make_list(script, desk, list, next);
     desk[LIST] = bytes;
+    desk[TABLE_GIVEN] = desk[GIVEN];
     desk[LABELS] = 0;
     desk[WORDS] = narrow(size);
     start_in(part(list, 0, wide(bytes)), &mut words[0..size], c)

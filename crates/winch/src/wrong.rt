@@ -54,19 +54,19 @@ pub fn wrong_numbers(fd: i32, desk: &mut [u32; 10256], verb: &[u8], takes: u32, 
     print_line(fd, desk);
     print(fd, verb);
     print(fd, b" takes ");
-    print_count(fd, takes);
+    print_count(fd, takes, b" number", b" numbers");
     print(fd, b", got ");
     print_number(fd, got);
     print(fd, b"\n");
 }
 
-// So many numbers.
-fn print_count(fd: i32, n: u32) {
+// So many: what one is called, and what more are.
+fn print_count(fd: i32, n: u32, one: &[u8], more: &[u8]) {
     print_number(fd, n);
     if n == 1 {
-        print(fd, b" number");
+        print(fd, one);
     } else {
-        print(fd, b" numbers");
+        print(fd, more);
     }
 }
 
@@ -74,8 +74,8 @@ fn print_count(fd: i32, n: u32) {
 pub fn wrong_fields(fd: i32, desk: &mut [u32; 10256], count: u32, takes: u32, got: u32) {
     print_line(fd, desk);
     print(fd, b"attr of ");
-    print_number(fd, count);
-    print(fd, b" fields takes ");
+    print_count(fd, count, b" field", b" fields");
+    print(fd, b" takes ");
     print_number(fd, takes);
     print(fd, b" words, got ");
     print_number(fd, got);
