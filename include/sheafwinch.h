@@ -207,7 +207,8 @@ sheafwinch_answer sheafwinch_ask_equal(uint32_t *image, size_t words, uint32_t h
  * MORE it is still asked, and the next work goes on where this one stopped. Refusals: 1, 4, and at a step 5, 6, with `steps` the
  * steps before it. */
 sheafwinch_answer sheafwinch_work(uint32_t *image, size_t words, uint32_t budget);
-/* Gives up the question that is asked. Refusals: 1, 4. */
+/* Gives up the question that is asked. What its steps added stays, visited pairs too, so a later question may say yes for nothing: ask
+ * no more in that image. Refusals: 1, 4. */
 sheafwinch_answer sheafwinch_abandon(uint32_t *image, size_t words);
 
 /* The reads. All are allowed while a question is asked. */
@@ -218,7 +219,7 @@ sheafwinch_answer sheafwinch_abandon(uint32_t *image, size_t words);
 sheafwinch_answer sheafwinch_entry(const uint32_t *image, size_t words, uint32_t n);
 /* Record n of a region, 1 to 6: the region, then the record's words. Refusals: 1, 2. */
 sheafwinch_answer sheafwinch_record(const uint32_t *image, size_t words, uint32_t region, uint32_t n);
-/* Whether two entries share no value: 1 where they share none, else 0. Refusals: 1, 2. */
+/* Whether two entries are disjoint by their shapes: 1 where they then share no value; 0 says that nothing is known. Refusals: 1, 2. */
 sheafwinch_answer sheafwinch_disjoint(const uint32_t *image, size_t words, uint32_t left, uint32_t right);
 
 /* The name calls. A name list is bytes that the caller lends: count (16 bits, little endian), count+1 offsets (the same) into the

@@ -587,7 +587,8 @@ class Table:
         return Instalment(Yes() if told.kind == _YES else More(), told.steps)
 
     def abandon(self) -> None:
-        """Gives up the question that is asked. Refusals: 4."""
+        """Gives up the question that is asked. What its steps added stays, visited pairs too, so a later question may say yes
+        for nothing: ask no more in that table. Refusals: 4."""
         self._call("abandon")
 
     def entry(self, n: int) -> Entry:
@@ -613,7 +614,7 @@ class Table:
         return Pair(*v)
 
     def disjoint(self, left: int, right: int) -> bool:
-        """Whether two entries share no value. Refusals: 2."""
+        """Whether two entries are disjoint by their shapes and so share no value; no says that nothing is known. Refusals: 2."""
         return self._call("disjoint", left, right).values[0] != 0
 
 

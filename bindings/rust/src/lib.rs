@@ -684,7 +684,8 @@ impl Table {
         Instalment { answer, steps: told.steps }
     }
 
-    /// Gives up the question that is asked. Refusals: 4.
+    /// Gives up the question that is asked. What its steps added stays, visited pairs too, so a later question may say yes for
+    /// nothing: ask no more in that table. Refusals: 4.
     pub fn abandon(&mut self) -> Result<(), Refusal> {
         done(unsafe { raw::sheafwinch_abandon(self.words.as_mut_ptr(), self.words.len()) })
     }
@@ -720,7 +721,7 @@ impl Table {
         })
     }
 
-    /// Whether two entries share no value. Refusals: 2.
+    /// Whether two entries are disjoint by their shapes and so share no value; no says that nothing is known. Refusals: 2.
     pub fn disjoint(&self, left: u32, right: u32) -> Result<bool, Refusal> {
         Ok(value(unsafe { raw::sheafwinch_disjoint(self.words.as_ptr(), self.words.len(), left, right) })? != 0)
     }
