@@ -1,7 +1,7 @@
 -- Demand 3: "any list of budgets up to the first that does not answer MORE, the answer, the steps in all and every word are those of
 -- `Whole`; while they answer MORE, entries, bounds and visited pairs are those of the nested rules stopped after that many steps."
 -- Over the contract `Post` of `work`, and of `ask` and `ask_equal`, which open the question. `Whole`, the rules without a pause, and
--- `nested` are in crates/instalments/specs. Assumes nothing.
+-- `Part`, the rules stopped after just so many steps, are in crates/instalments/specs. Assumes nothing.
 use Prim.Native.Nat.{ℕ, _+_, _<_}
 use native.Mathlib.Omega.{arith}
 use mathlib.Core.Path.{_≡_, refl, sym, ap, _∙_, subst}
@@ -10,8 +10,7 @@ use mathlib.Core.Bool.{Bool, true, false}
 use lib.Dec.{T, ltb, ltb→lt}
 use borrow.Author.Tests.{ltb-false}
 use Rattle.instalments.specs.Machine.{total}
-use Rattle.instalments.specs.Nested.{stopped, in-turn, nested}
-use Rattle.instalments.specs.Whole.{End, well, broken, ended, Whole}
+use Rattle.instalments.specs.Whole.{End, well, broken, Whole, Part}
 use Rattle.model.specs.Table.{Pair, _⊑_, Store, Table, tableOf, isAsked}
 use Rattle.model.specs.Image.{words, table}
 use Rattle.model.specs.Formed.{wellFormed}
@@ -25,7 +24,8 @@ use Rattle.model.specs.declared.Answer.{Answer}
 use Rattle.model.specs.declared.Answer.the-variants as A
 use Rattle.model.specs.declared.Instalment.{Instalment}
 use Rattle.laws.specs.Demands.{afterSteps, workAll, Demand-3}
-use Rattle.instalments.proofs.Whole.{whole-ended, whole-same}
+use Rattle.instalments.proofs.Whole.{whole-same}
+use Rattle.instalments.proofs.Part.{part-short}
 use Rattle.laws.proofs.Tests.{of-true}
 use Rattle.laws.proofs.Calls.{call-formed}
 use Rattle.laws.proofs.Demands.{image-demand-3}
@@ -91,10 +91,10 @@ pub record Instalments (budgets : List ℕ) (s : Store) (ps : List Pair) (y : An
   pub to-yes : y ≡ A.Yes → (u : Store) × Whole rule s ps n (well u) × (w ≡ words (tableOf u []))
   pub to-failure : (f : Failure) → y ≡ A.Failed f → (u : Store) × Whole rule s ps n (broken f u) × (w ≡ words (tableOf u []))
   -- MORE: every budget is used, and entries, bounds and visited pairs are those of the nested rules stopped after that many steps
-  pub to-more : y ≡ A.More → (u : Store) × (n ≡ total budgets) × (in-turn (nested rule) n s ps ≡ stopped u)
+  pub to-more : y ≡ A.More → (u : Store) × (n ≡ total budgets) × Part rule s ps n u
       × (table w .store .entries ≡ u .entries) × (table w .store .bounds ≡ u .bounds) × (table w .store .visited ≡ u .visited)
   -- refused by 5 or 6: the same after the steps that it tells
-  pub to-refusal : (r : Refusal) → y ≡ A.Refused r → (u : Store) × (in-turn (nested rule) n s ps ≡ stopped u)
+  pub to-refusal : (r : Refusal) → y ≡ A.Refused r → (u : Store) × Part rule s ps n u
       × (table w .store .entries ≡ u .entries) × (table w .store .bounds ≡ u .bounds) × (table w .store .visited ≡ u .visited)
 
 module _ (bs : List ℕ) (s : Store) (ps : List Pair) (y : Answer) (n : ℕ) (w : List ℕ) (h : T (wellFormed w)) (d : Demand-3 bs s ps (asReply y n w)) where
@@ -185,16 +185,5 @@ pub any-budgets : {bs cs v w x : List ℕ} (y z : Answer) {n m : ℕ} → T (wel
 any-budgets y z h a i j k l = both y z i j (worked-in-instalments y h a k) (worked-in-instalments z h a l)
 
 -- and MORE is answered only while the steps are fewer than the whole takes
-not-stopped : (k : ℕ) (e : End Store Failure) (u : Store) → ended k e ≡ stopped u → ⊥
-unfolding ended
-not-stopped k (well s) u h = let z : _≡_ {A = ℕ} 0 1 = cc in omega arith
-not-stopped k (broken f s) u h = let z : _≡_ {A = ℕ} 0 1 = cc in omega arith
-
 pub more-only-before : {bs w : List ℕ} {s : Store} {ps : List Pair} {n k : ℕ} {e : End Store Failure} → Instalments bs s ps A.More n w → Whole rule s ps k e → n < k
-more-only-before {n = n} {k = k} {e = e} i whole = before (ltb n k) refl
-  where
-    before : (t : Bool) → ltb n k ≡ t → n < k
-    before true h = ltb→lt n k (of-true (ltb n k) h)
-    before false h =
-        let m = i .to-more refl in
-        absurd (not-stopped k e (m .0) (sym (whole-ended rule whole n (ltb-false n k h)) ∙ m .2))
+more-only-before i whole = part-short rule (i .to-more refl .2) whole
