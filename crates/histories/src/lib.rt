@@ -1,0 +1,1 @@
+// Histories, over any rule: definitions and laws alone, no code.
