@@ -6,9 +6,7 @@ use Prim.Native.Nat.{ℕ, _+_, _<_}
 use native.Mathlib.Omega.{arith}
 use mathlib.Core.Path.{_≡_, refl, sym, ap, _∙_, subst}
 use mathlib.Core.List.{List, [], _∷_, reverse}
-use mathlib.Core.Bool.{Bool, true, false}
-use lib.Dec.{T, ltb, ltb→lt}
-use borrow.Author.Tests.{ltb-false}
+use lib.Dec.{T}
 use Rattle.instalments.specs.Machine.{total}
 use Rattle.instalments.specs.Whole.{End, well, broken, Whole, Part}
 use Rattle.model.specs.Table.{Pair, _⊑_, Store, Table, tableOf, isAsked}
@@ -26,7 +24,6 @@ use Rattle.model.specs.declared.Instalment.{Instalment}
 use Rattle.laws.specs.Demands.{afterSteps, workAll, Demand-3}
 use Rattle.instalments.proofs.Whole.{whole-same}
 use Rattle.instalments.proofs.Part.{part-short}
-use Rattle.laws.proofs.Tests.{of-true}
 use Rattle.laws.proofs.Calls.{call-formed}
 use Rattle.laws.proofs.Demands.{image-demand-3}
 use Rattle.laws.proofs.Questions.{ask-demand-3, ask-equal-demand-3}
