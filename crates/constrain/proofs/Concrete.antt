@@ -7,7 +7,7 @@ use mathlib.Core.Bool.{false, cond, _&&_}
 use lib.ListN.{length}
 use borrow.Author.Tests.{eqb-false}
 use Rattle.model.specs.Format.{variable, attrset, neg, inter, union}
-use Rattle.model.specs.Table.{Entry, Field, Store, _⊑_, entryAt, is, isAt}
+use Rattle.model.specs.Table.{Entry, Field, Store, Graph, graphOf, _⊑_, entryAt, is, isAt}
 use Rattle.model.specs.Shapes.{functorOf}
 use Rattle.model.specs.Formed.{kindKnown, oneComponent, twoComponents}
 use Rattle.model.specs.Rules.{mismatch, attrsets, functorRule, armOf, byArm, concrete}
@@ -45,10 +45,10 @@ module _ (s : Store) (good : Good s) (n : ℕ) (lt : n < length (s .entries)) (v
   union-below k = let h : entryAt (s .entries) n .kind ≡ union = rw q at k in rw q (x-of s good n lt (rw h tt), y-of s good n lt (rw h tt))
 
 -- of the lambda, the functor's rule reads only its components
-lambda-same : (s : Store) (sub : ℕ) (b : Entry) (o : Option Field) → functorRule s sub (lambdaOf (b .x) (b .y)) o ≡ functorRule s sub b o
+lambda-same : (g : Graph) (sub : ℕ) (b : Entry) (o : Option Field) → functorRule g sub (lambdaOf (b .x) (b .y)) o ≡ functorRule g sub b o
 unfolding functorRule
-lambda-same s sub b none = refl
-lambda-same s sub b (some f) = refl
+lambda-same g sub b none = refl
+lambda-same g sub b (some f) = refl
 
 -- what is known of sub and sup, their words v and w, and the arm
 pub record Decided (s : Store) (sub sup : ℕ) (v w : Words) (arm : Arm) : Type 0 where
@@ -71,8 +71,8 @@ module _ {s : Store} {sub sup : ℕ} {v w : Words} {arm : Arm} (d : Decided s su
   union-there q = let f : Fits A.SupUnion (v .kind) (w .kind) (v .x) (w .x) = rw q at (d .fits) in union-below s (d .good) sup (d .sup-there) w (d .sup-words) (f .0)
 
   pub by-arm : {x : Arm} {r : Next} → arm ≡ x
-      → Comes s (sub ⊑ sup) r (byArm s sub sup (entryAt (s .entries) sub) (entryAt (s .entries) sup) (armIn x))
-      → Comes s (sub ⊑ sup) r (concrete s sub sup (entryAt (s .entries) sub) (entryAt (s .entries) sup))
+      → Comes (graphOf s) (sub ⊑ sup) r (byArm (graphOf s) sub sup (entryAt (s .entries) sub) (entryAt (s .entries) sup) (armIn x))
+      → Comes (graphOf s) (sub ⊑ sup) r (concrete (graphOf s) sub sup (entryAt (s .entries) sub) (entryAt (s .entries) sup))
   unfolding concrete
   by-arm {x} q h =
       let a : Entry = entryAt (s .entries) sub in
@@ -82,8 +82,8 @@ module _ {s : Store} {sub sup : ℕ} {v w : Words} {arm : Arm} (d : Decided s su
 
   -- both are attrsets
   pub attrsets-same : arm ≡ A.Attrsets
-      → cond (isAt (s .entries) attrset sub && isAt (s .entries) attrset sup) (attrsets s (entryAt (s .entries) sub) (entryAt (s .entries) sup)) mismatch
-      ≡ attrsets s (entryAt (s .entries) sub) (entryAt (s .entries) sup)
+      → cond (isAt (s .entries) attrset sub && isAt (s .entries) attrset sup) (attrsets (graphOf s) (entryAt (s .entries) sub) (entryAt (s .entries) sup)) mismatch
+      ≡ attrsets (graphOf s) (entryAt (s .entries) sub) (entryAt (s .entries) sup)
   unfolding isAt is
   attrsets-same q =
       let f : Fits A.Attrsets (v .kind) (w .kind) (v .x) (w .x) = rw q at (d .fits) in
@@ -92,10 +92,10 @@ module _ {s : Store} {sub sup : ℕ} {v w : Words} {arm : Arm} (d : Decided s su
       rw (h, k)
 
   pub functor-same : {r : Next}
-      → Comes s (sub ⊑ sup) r (functorRule s sub (lambdaOf (w .x) (w .y)) (functorOf s (entryAt (s .entries) sub)))
-      → Comes s (sub ⊑ sup) r (functorRule s sub (entryAt (s .entries) sup) (functorOf s (entryAt (s .entries) sub)))
+      → Comes (graphOf s) (sub ⊑ sup) r (functorRule (graphOf s) sub (lambdaOf (w .x) (w .y)) (functorOf (graphOf s) (entryAt (s .entries) sub)))
+      → Comes (graphOf s) (sub ⊑ sup) r (functorRule (graphOf s) sub (entryAt (s .entries) sup) (functorOf (graphOf s) (entryAt (s .entries) sub)))
   functor-same {r} h =
       let b : Entry = entryAt (s .entries) sup in
-      let o : Option Field = functorOf s (entryAt (s .entries) sub) in
-      let k : Comes s (sub ⊑ sup) r (functorRule s sub (lambdaOf (b .x) (b .y)) o) = rw (d .sup-words) at h in
-      rw (sym (lambda-same s sub b o)) k
+      let o : Option Field = functorOf (graphOf s) (entryAt (s .entries) sub) in
+      let k : Comes (graphOf s) (sub ⊑ sup) r (functorRule (graphOf s) sub (lambdaOf (b .x) (b .y)) o) = rw (d .sup-words) at h in
+      rw (sym (lambda-same (graphOf s) sub b o)) k

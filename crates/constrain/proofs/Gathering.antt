@@ -11,7 +11,7 @@ use denote.Enum.Declared.{tagOf}
 use borrow.Author.Tests.{eq-eqb, ne-eqb}
 use Rattle.model.specs.Lists.{isZero}
 use Rattle.model.specs.Format.{attrset}
-use Rattle.model.specs.Table.{Entry, Field, Pair, _⊑_, Store, entryAt, is, isAt, isOpen, hasDynamic}
+use Rattle.model.specs.Table.{Entry, Field, Pair, _⊑_, Store, Graph, graphOf, entryAt, is, isAt, isOpen, hasDynamic}
 use Rattle.model.specs.Shapes.{fieldsOf, fieldNamed}
 use Rattle.model.specs.Rules.{mismatch, Gathered, gathered, lacking, before, gatherOne, gather, dynamics, gatheredEffect, attrsets}
 use Rattle.model.specs.Calls.{readOut, dynamicOf}
@@ -184,25 +184,25 @@ dynamics-told : (d e : Entry) → dynamics d e ≡ dynamicPairs (dynamicOf d) (d
 unfolding dynamics dynamicOf
 dynamics-told d e = dynamics-by (hasDynamic d) (hasDynamic e) (d .z) (e .z)
 
-effect-told : (s : Store) (p : Pair) (a b : Attrset) (m : Option ℕ) → effectOf s p (gatheredBy (s .fields) a b m) ≡ gatheredEffect s (told m (fieldPairs (s .fields) a b))
+effect-told : (g : Graph) (p : Pair) (a b : Attrset) (m : Option ℕ) → effectOf g p (gatheredBy (g .fields) a b m) ≡ gatheredEffect g (told m (fieldPairs (g .fields) a b))
 unfolding gatheredEffect
-effect-told s p a b none = refl
-effect-told s p a b (some n) = refl
+effect-told g p a b none = refl
+effect-told g p a b (some n) = refl
 
 -- the attrset rule
-attrsets-told : (s : Store) (p : Pair) (d e : Entry) → effectOf s p (gatheredIn (s .fields) (attrsetOf d) (attrsetOf e)) ≡ attrsets s d e
+attrsets-told : (g : Graph) (p : Pair) (d e : Entry) → effectOf g p (gatheredIn (g .fields) (attrsetOf d) (attrsetOf e)) ≡ attrsets g d e
 unfolding attrsets gatheredIn fieldPairs fieldsOf
-attrsets-told s p d e =
+attrsets-told g p d e =
     let a = attrsetOf d in
     let b = attrsetOf e in
-    let m = firstMissing a (fieldsHeld (s .fields) a) (fieldsHeld (s .fields) b) in
-    let q : gather d (fieldsOf (s .fields) d) (dynamics d e) (fieldsOf (s .fields) e) ≡ told m (fieldPairs (s .fields) a b) =
-    gather-told d (fieldsOf (s .fields) d) (dynamics d e) (fieldsOf (s .fields) e) ∙ rw (dynamics-told d e) in
-    effect-told s p a b m ∙ sym (ap (gatheredEffect s) q)
+    let m = firstMissing a (fieldsHeld (g .fields) a) (fieldsHeld (g .fields) b) in
+    let q : gather d (fieldsOf (g .fields) d) (dynamics d e) (fieldsOf (g .fields) e) ≡ told m (fieldPairs (g .fields) a b) =
+    gather-told d (fieldsOf (g .fields) d) (dynamics d e) (fieldsOf (g .fields) e) ∙ rw (dynamics-told d e) in
+    effect-told g p a b m ∙ sym (ap (gatheredEffect g) q)
 
-applicable : (s : Store) (a b : Attrset) (m : Option ℕ) → Inside (s .fields) a → Inside (s .fields) b → Applicable s (gatheredBy (s .fields) a b m)
-applicable s a b none h k = (h, k, refl)
-applicable s a b (some n) h k = tt
+applicable : (g : Graph) (a b : Attrset) (m : Option ℕ) → Inside (g .fields) a → Inside (g .fields) b → Applicable g (gatheredBy (g .fields) a b m)
+applicable g a b none h k = (h, k, refl)
+applicable g a b (some n) h k = tt
 
 -- an entry that reads out as an attrset, or not
 abbrev AsAttrset : Entry → EntryOut → Type 0
@@ -260,7 +260,7 @@ module _ (s : Store) (good : Good s) (i : ℕ) (lt : i < length (s .entries)) wh
 
 -- what two entries come to
 abbrev Told : Store → ℕ → ℕ → Next → Type 0
-Told s i j r = Comes s (i ⊑ j) r (cond (isAt (s .entries) attrset i && isAt (s .entries) attrset j) (attrsets s (entryAt (s .entries) i) (entryAt (s .entries) j)) mismatch)
+Told s i j r = Comes (graphOf s) (i ⊑ j) r (cond (isAt (s .entries) attrset i && isAt (s .entries) attrset j) (attrsets (graphOf s) (entryAt (s .entries) i) (entryAt (s .entries) j)) mismatch)
 
 module _ (s : Store) (good : Good s) (i j : ℕ) (li : i < length (s .entries)) (lj : j < length (s .entries)) where
   pub first-other : {o : EntryOut} → o ≡ readOut (entryAt (s .entries) i) → OneOf (0 ∷ 1 ∷ 2 ∷ 3 ∷ 5 ∷ 6 ∷ 7 ∷ 8 ∷ []) (tagOf the-type o) → Told s i j N.Mismatch
@@ -276,8 +276,8 @@ module _ (s : Store) (good : Good s) (i j : ℕ) (li : i < length (s .entries)) 
   both-told {a} {b} p q {r} h =
       let d = entryAt (s .entries) i in
       let e = entryAt (s .entries) j in
-      let m : effectOf s (i ⊑ j) r ≡ attrsets s d e = rw (h, ← attrset-is s good i li p, ← attrset-is s good j lj q) (attrsets-told s (i ⊑ j) d e) in
+      let m : effectOf (graphOf s) (i ⊑ j) r ≡ attrsets (graphOf s) d e = rw (h, ← attrset-is s good i li p, ← attrset-is s good j lj q) (attrsets-told (graphOf s) (i ⊑ j) d e) in
       record {
         means = rw (attrset-at s good i li p, attrset-at s good j lj q) m;
-        applies = rw h (applicable s a b (firstMissing a (fieldsHeld (s .fields) a) (fieldsHeld (s .fields) b)) (attrset-inside s good i li p) (attrset-inside s good j lj q));
+        applies = rw h (applicable (graphOf s) a b (firstMissing a (fieldsHeld (s .fields) a) (fieldsHeld (s .fields) b)) (attrset-inside s good i li p) (attrset-inside s good j lj q));
       }

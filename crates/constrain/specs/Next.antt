@@ -1,10 +1,10 @@
--- What `Next` means: the effect of a pair's rule on a store. Assumes nothing.
+-- What `Next` means: the effect of a pair's rule on a graph. Assumes nothing.
 use Prim.Native.Nat.{ℕ, _<_}
 use mathlib.Core.Path.{_≡_}
 use mathlib.Core.List.{List, [], _∷_}
 use lib.ListN.{length}
 use Rattle.model.specs.Format.{lambda}
-use Rattle.model.specs.Table.{Entry, Field, Pair, _⊑_, Store}
+use Rattle.model.specs.Table.{Entry, Field, Pair, _⊑_, Graph}
 use Rattle.model.specs.Making.{newEntry, makeNeg}
 use Rattle.model.specs.Rules.{Effect, mismatch, missing, follow, followMade, target, subVariable, supVariable}
 use Rattle.disjoint.specs.Fields.{Inside}
@@ -28,16 +28,16 @@ pairsIn fs (One a b) = (a ⊑ b) ∷ []
 pairsIn fs (Two a b c d) = (a ⊑ b) ∷ (c ⊑ d) ∷ []
 pairsIn fs (Fields a b n) = fieldPairs fs a b
 
-abbrev pub effectOf : Store → Pair → Next → Effect
-effectOf s p N.Mismatch = mismatch
-effectOf s p (N.Missing name) = missing name
-effectOf s p (N.Follow ps) = follow s (pairsIn (s .fields) ps)
-effectOf s p (N.Isolate c d) = followMade s c (target (p .sup) (makeNeg (s .entries) d))
-effectOf s p (N.Functor f param body) =
-    let m = newEntry (s .entries) lambda param body in
-    followMade s f (newEntry (m .after) lambda (p .sub) (m .number))
-effectOf s p N.Upper = subVariable s (p .sub) (p .sup)
-effectOf s p N.Lower = supVariable s (p .sub) (p .sup)
+abbrev pub effectOf : Graph → Pair → Next → Effect
+effectOf g p N.Mismatch = mismatch
+effectOf g p (N.Missing name) = missing name
+effectOf g p (N.Follow ps) = follow g (pairsIn (g .fields) ps)
+effectOf g p (N.Isolate c d) = followMade g c (target (p .sup) (makeNeg (g .entries) d))
+effectOf g p (N.Functor f param body) =
+    let m = newEntry (g .entries) lambda param body in
+    followMade g f (newEntry (m .after) lambda (p .sub) (m .number))
+effectOf g p N.Upper = subVariable g (p .sub) (p .sup)
+effectOf g p N.Lower = supVariable g (p .sub) (p .sup)
 
 -- what is needed to apply it: its attrsets' records are there, and so many pairs; the side to be negated is an entry
 abbrev pub PairsRight : List Field → Pairs → Type 0
@@ -46,23 +46,23 @@ PairsRight fs (One a b) = Unit {0}
 PairsRight fs (Two a b c d) = Unit {0}
 PairsRight fs (Fields a b n) = Inside fs a × Inside fs b × (n ≡ length (fieldPairs fs a b))
 
-abbrev pub Applicable : Store → Next → Type 0
-Applicable s N.Mismatch = Unit {0}
-Applicable s (N.Missing name) = Unit {0}
-Applicable s (N.Follow ps) = PairsRight (s .fields) ps
-Applicable s (N.Isolate c d) = d < length (s .entries)
-Applicable s (N.Functor f param body) = Unit {0}
-Applicable s N.Upper = Unit {0}
-Applicable s N.Lower = Unit {0}
+abbrev pub Applicable : Graph → Next → Type 0
+Applicable g N.Mismatch = Unit {0}
+Applicable g (N.Missing name) = Unit {0}
+Applicable g (N.Follow ps) = PairsRight (g .fields) ps
+Applicable g (N.Isolate c d) = d < length (g .entries)
+Applicable g (N.Functor f param body) = Unit {0}
+Applicable g N.Upper = Unit {0}
+Applicable g N.Lower = Unit {0}
 
 -- the pair comes to that effect
-pub record Comes (s : Store) (p : Pair) (r : Next) (e : Effect) : Type 0 where
-  pub means : effectOf s p r ≡ e
-  pub applies : Applicable s r
+pub record Comes (g : Graph) (p : Pair) (r : Next) (e : Effect) : Type 0 where
+  pub means : effectOf g p r ≡ e
+  pub applies : Applicable g r
 
 -- whatever sub is, and whatever sup is
-abbrev pub ComesUnder : Store → ℕ → Next → Effect → Type 0
-ComesUnder s sup r e = (sub : ℕ) → Comes s (sub ⊑ sup) r e
+abbrev pub ComesUnder : Graph → ℕ → Next → Effect → Type 0
+ComesUnder g sup r e = (sub : ℕ) → Comes g (sub ⊑ sup) r e
 
-abbrev pub ComesOf : Store → ℕ → Next → Effect → Type 0
-ComesOf s sub r e = (sup : ℕ) → Comes s (sub ⊑ sup) r e
+abbrev pub ComesOf : Graph → ℕ → Next → Effect → Type 0
+ComesOf g sub r e = (sup : ℕ) → Comes g (sub ⊑ sup) r e

@@ -14,7 +14,7 @@ ghost use Rattle.model.specs.Rules.{mismatch, chosen as chosenOf, isolate as is
 ghost use Rattle.model.specs.Shapes.{functorOf};
 ghost use Rattle.laws.specs.Good.{Good};
 ghost use Rattle.image.specs.Laid.{Laid};
-ghost use Rattle.image.specs.Shown.{storeOf, entriesOf, fieldsIn};
+ghost use Rattle.image.specs.Shown.{storeOf, graphIn, entriesOf, fieldsIn};
 ghost use Rattle.image.specs.Records.{fieldAt};
 ghost use Rattle.disjoint.specs.Fields.{Inside, fieldsHeld};
 ghost use Rattle.constrain.specs.Fields.{askOf, askDynamic, bothDynamic, gatheredIn};
@@ -228,7 +228,7 @@ fn constrain_attrsets(image: &[u32], sub: u32, sup: u32) -> Next
     requires { ⌜ Good (storeOf (now image)) ⌝ }
     requires { ⌜ sub < length (entriesOf (now image)) ⌝ }
     requires { ⌜ sup < length (entriesOf (now image)) ⌝ }
-    ensures { λ r. ⌜ Comes (storeOf (now (image .entry))) (sub ⊑ sup) r (cond (isAt (entriesOf (now (image .entry))) attrset sub && isAt (entriesOf (now (image .entry))) attrset sup) (attrsets (storeOf (now (image .entry))) (entryAt (entriesOf (now (image .entry))) sub) (entryAt (entriesOf (now (image .entry))) sup)) mismatch) ⌝ }
+    ensures { λ r. ⌜ Comes (graphIn (now (image .entry))) (sub ⊑ sup) r (cond (isAt (entriesOf (now (image .entry))) attrset sub && isAt (entriesOf (now (image .entry))) attrset sup) (attrsets (graphIn (now (image .entry))) (entryAt (entriesOf (now (image .entry))) sub) (entryAt (entriesOf (now (image .entry))) sup)) mismatch) ⌝ }
 {
     let d = image::entry(image, sub);
     let e = image::entry(image, sup);
@@ -264,7 +264,7 @@ fn isolate(image: &[u32], c: u32, d: u32, sup: u32) -> Next
     requires { ⌜ Good (storeOf (now image)) ⌝ }
     requires { ⌜ d < length (entriesOf (now image)) ⌝ }
     requires { ⌜ sup < length (entriesOf (now image)) ⌝ }
-    ensures { λ r. ⌜ ComesUnder (storeOf (now (image .entry))) sup r (isolateOf (storeOf (now (image .entry))) c d sup) ⌝ }
+    ensures { λ r. ⌜ ComesUnder (graphIn (now (image .entry))) sup r (isolateOf (graphIn (now (image .entry))) c d sup) ⌝ }
 {
     if disjoint::disjoint_from_sup(image, sup, d) {
         return Next::Mismatch;
@@ -282,7 +282,7 @@ fn constrain_lhs_inter(image: &[u32], a: u32, b: u32, sup: u32) -> Next
     requires { ⌜ a < length (entriesOf (now image)) ⌝ }
     requires { ⌜ b < length (entriesOf (now image)) ⌝ }
     requires { ⌜ sup < length (entriesOf (now image)) ⌝ }
-    ensures { λ r. ⌜ ComesUnder (storeOf (now (image .entry))) sup r (leftInter (storeOf (now (image .entry))) a b sup) ⌝ }
+    ensures { λ r. ⌜ ComesUnder (graphIn (now (image .entry))) sup r (leftInter (graphIn (now (image .entry))) a b sup) ⌝ }
 {
     if is_chosen(image, a, b) {
         if is_chosen(image, b, a) {
@@ -302,7 +302,7 @@ fn rhs_one_variable(image: &[u32], sub: u32, c: u32, v: u32) -> Next
     requires { ⌜ Good (storeOf (now image)) ⌝ }
     requires { ⌜ sub < length (entriesOf (now image)) ⌝ }
     requires { ⌜ c < length (entriesOf (now image)) ⌝ }
-    ensures { λ r. ⌜ ComesOf (storeOf (now (image .entry))) sub r (rightOpen (storeOf (now (image .entry))) sub c v) ⌝ }
+    ensures { λ r. ⌜ ComesOf (graphIn (now (image .entry))) sub r (rightOpen (graphIn (now (image .entry))) sub c v) ⌝ }
 {
     if disjoint::compatible(image, sub, c) {
         return Next::Follow(Pairs::One(sub, c));
@@ -326,7 +326,7 @@ fn rhs_same_kind(image: &[u32], sub: u32, a: u32, b: u32) -> Next
     requires { ⌜ sub < length (entriesOf (now image)) ⌝ }
     requires { ⌜ a < length (entriesOf (now image)) ⌝ }
     requires { ⌜ b < length (entriesOf (now image)) ⌝ }
-    ensures { λ r. ⌜ ComesOf (storeOf (now (image .entry))) sub r (rightKind (storeOf (now (image .entry))) sub a b) ⌝ }
+    ensures { λ r. ⌜ ComesOf (graphIn (now (image .entry))) sub r (rightKind (graphIn (now (image .entry))) sub a b) ⌝ }
 {
     if discriminant_matches(image, sub, a) {
         if discriminant_matches(image, sub, b) {
@@ -347,7 +347,7 @@ fn rhs_concrete(image: &[u32], sub: u32, a: u32, b: u32) -> Next
     requires { ⌜ sub < length (entriesOf (now image)) ⌝ }
     requires { ⌜ a < length (entriesOf (now image)) ⌝ }
     requires { ⌜ b < length (entriesOf (now image)) ⌝ }
-    ensures { λ r. ⌜ ComesOf (storeOf (now (image .entry))) sub r (rightClosed (storeOf (now (image .entry))) sub a b) ⌝ }
+    ensures { λ r. ⌜ ComesOf (graphIn (now (image .entry))) sub r (rightClosed (graphIn (now (image .entry))) sub a b) ⌝ }
 {
     if disjoint::disjoint(image, sub, a) {
         if disjoint::disjoint(image, sub, b) {
@@ -368,7 +368,7 @@ fn constrain_rhs_union(image: &[u32], sub: u32, a: u32, b: u32) -> Next
     requires { ⌜ sub < length (entriesOf (now image)) ⌝ }
     requires { ⌜ a < length (entriesOf (now image)) ⌝ }
     requires { ⌜ b < length (entriesOf (now image)) ⌝ }
-    ensures { λ r. ⌜ ComesOf (storeOf (now (image .entry))) sub r (rightUnion (storeOf (now (image .entry))) sub a b) ⌝ }
+    ensures { λ r. ⌜ ComesOf (graphIn (now (image .entry))) sub r (rightUnion (graphIn (now (image .entry))) sub a b) ⌝ }
 {
     if is_var(image, a) {
         if is_var(image, b) {
@@ -387,7 +387,7 @@ fn constrain_functor(image: &[u32], sub: u32, param: u32, body: u32) -> Next
     requires { ⌜ Laid (now image) ⌝ }
     requires { ⌜ Good (storeOf (now image)) ⌝ }
     requires { ⌜ sub < length (entriesOf (now image)) ⌝ }
-    ensures { λ r. ⌜ ComesOf (storeOf (now (image .entry))) sub r (functorRule (storeOf (now (image .entry))) sub (lambdaOf param body) (functorOf (storeOf (now (image .entry))) (entryAt (entriesOf (now (image .entry))) sub))) ⌝ }
+    ensures { λ r. ⌜ ComesOf (graphIn (now (image .entry))) sub r (functorRule (graphIn (now (image .entry))) sub (lambdaOf param body) (functorOf (graphIn (now (image .entry))) (entryAt (entriesOf (now (image .entry))) sub))) ⌝ }
 {
     let found = disjoint::functor_of(image, sub);
     match found {
@@ -406,7 +406,7 @@ fn constrain_under_neg(image: &[u32], sub: u32, n: u32) -> Next
     requires { ⌜ Good (storeOf (now image)) ⌝ }
     requires { ⌜ sub < length (entriesOf (now image)) ⌝ }
     requires { ⌜ n < length (entriesOf (now image)) ⌝ }
-    ensures { λ r. ⌜ ComesOf (storeOf (now (image .entry))) sub r (underNegation (storeOf (now (image .entry))) (entryAt (entriesOf (now (image .entry))) sub) n) ⌝ }
+    ensures { λ r. ⌜ ComesOf (graphIn (now (image .entry))) sub r (underNegation (graphIn (now (image .entry))) (entryAt (entriesOf (now (image .entry))) sub) n) ⌝ }
 {
     if disjoint::disjoint(image, sub, n) {
         return Next::Follow(Pairs::Nothing);
@@ -422,7 +422,7 @@ fn constrain_concrete(image: &[u32], sub: u32, sup: u32) -> Next
     requires { ⌜ sup < length (entriesOf (now image)) ⌝ }
     requires { ⌜ isAt (entriesOf (now image)) variable sub ≡ false ⌝ }
     requires { ⌜ isAt (entriesOf (now image)) variable sup ≡ false ⌝ }
-    ensures { λ r. ⌜ Comes (storeOf (now (image .entry))) (sub ⊑ sup) r (concrete (storeOf (now (image .entry))) sub sup (entryAt (entriesOf (now (image .entry))) sub) (entryAt (entriesOf (now (image .entry))) sup)) ⌝ }
+    ensures { λ r. ⌜ Comes (graphIn (now (image .entry))) (sub ⊑ sup) r (concrete (graphIn (now (image .entry))) sub sup (entryAt (entriesOf (now (image .entry))) sub) (entryAt (entriesOf (now (image .entry))) sup)) ⌝ }
 {
     let a = words_of(image, sub);
     let b = words_of(image, sup);
@@ -451,7 +451,7 @@ pub fn constrain(image: &[u32], sub: u32, sup: u32) -> Next
     requires { ⌜ Good (storeOf (now image)) ⌝ }
     requires { ⌜ sub < length (entriesOf (now image)) ⌝ }
     requires { ⌜ sup < length (entriesOf (now image)) ⌝ }
-    ensures { λ r. ⌜ Comes (storeOf (now (image .entry))) (sub ⊑ sup) r (pairRule (storeOf (now (image .entry))) sub sup) ⌝ }
+    ensures { λ r. ⌜ Comes (graphIn (now (image .entry))) (sub ⊑ sup) r (pairRule (graphIn (now (image .entry))) sub sup) ⌝ }
 {
     if is_var(image, sub) {
         return Next::Upper;

@@ -12,7 +12,7 @@ use lib.Dec.{eqb}
 use borrow.Author.Tests.{eq-eqb, ne-eqb, eqb-true}
 use Rattle.model.specs.Lists.{isSome, any}
 use Rattle.model.specs.Format.{fieldsMost, attrset}
-use Rattle.model.specs.Table.{Entry, Field, Store, is}
+use Rattle.model.specs.Table.{Entry, Field, Graph, is}
 use Rattle.model.specs.Shapes.{fieldsOf, fieldNamed, functorIn, functorOf, hasFunctor}
 use Rattle.image.specs.Laid.{Laid}
 use Rattle.image.specs.Shown.{fieldsIn}
@@ -127,32 +127,32 @@ module _ (fs : List Field) (first count r word : ℕ) (read : r ≡ word) where
   set n = numbered fs first count r n ∙ ap (functorNumber fs first count) read
 
 -- the functor of an entry whose fields, if it is an attrset, are there
-module _ (s : Store) (e : Entry) (h : e .kind ≡ attrset → e .x + e .y ≤ length (s .fields)) where
-  by-functor : (b : Bool) → (b ≡ true → e .x + e .y ≤ length (s .fields))
-      → fieldFound (s .fields) (cond b (functorNumber (s .fields) (e .x) (e .y) (s .functor)) Nothing) ≡ cond b (functorIn (fieldsOf (s .fields) e) (s .functor)) none
+module _ (g : Graph) (e : Entry) (h : e .kind ≡ attrset → e .x + e .y ≤ length (g .fields)) where
+  by-functor : (b : Bool) → (b ≡ true → e .x + e .y ≤ length (g .fields))
+      → fieldFound (g .fields) (cond b (functorNumber (g .fields) (e .x) (e .y) (g .functor)) Nothing) ≡ cond b (functorIn (fieldsOf (g .fields) e) (g .functor)) none
   unfolding fieldsOf
-  by-functor true k = functor-number (s .fields) (e .x) (e .y) (s .functor) (k refl)
+  by-functor true k = functor-number (g .fields) (e .x) (e .y) (g .functor) (k refl)
   by-functor false k = refl
 
-  by-inside : (b : Bool) → (b ≡ true → e .x + e .y ≤ length (s .fields)) → FoundInside (s .fields) (cond b (functorNumber (s .fields) (e .x) (e .y) (s .functor)) Nothing)
-  by-inside true k = functor-number-inside (s .fields) (e .x) (e .y) (s .functor) (k refl)
+  by-inside : (b : Bool) → (b ≡ true → e .x + e .y ≤ length (g .fields)) → FoundInside (g .fields) (cond b (functorNumber (g .fields) (e .x) (e .y) (g .functor)) Nothing)
+  by-inside true k = functor-number-inside (g .fields) (e .x) (e .y) (g .functor) (k refl)
   by-inside false k = tt
 
-  inside-if : is attrset e ≡ true → e .x + e .y ≤ length (s .fields)
+  inside-if : is attrset e ≡ true → e .x + e .y ≤ length (g .fields)
   unfolding is
   inside-if q = h (eqb-true (e .kind) attrset q)
 
-  pub functor-is : fieldFound (s .fields) (functorRecord s e) ≡ functorOf s e
+  pub functor-is : fieldFound (g .fields) (functorRecord g e) ≡ functorOf g e
   unfolding functorRecord functorOf
   functor-is = by-functor (is attrset e) inside-if
 
-  pub functor-inside : FoundInside (s .fields) (functorRecord s e)
+  pub functor-inside : FoundInside (g .fields) (functorRecord g e)
   unfolding functorRecord
   functor-inside = by-inside (is attrset e) inside-if
 
-  pub functor-has : isFound (functorRecord s e) ≡ hasFunctor s e
+  pub functor-has : isFound (functorRecord g e) ≡ hasFunctor g e
   unfolding hasFunctor
-  functor-has = sym (found-some (s .fields) (functorRecord s e)) ∙ ap isSome functor-is
+  functor-has = sym (found-some (g .fields) (functorRecord g e)) ∙ ap isSome functor-is
 
 -- some field passes a test
 module _ (f : Field → Bool) (fs : List Field) (j e : ℕ) where

@@ -5,7 +5,7 @@ use mathlib.Core.Path.{_≡_, refl, sym, _∙_}
 use mathlib.Core.List.{List}
 use mathlib.Core.Option.{none, some}
 use lib.ListN.{length, take, drop}
-use Rattle.model.specs.Table.{Field, Store, entryAt}
+use Rattle.model.specs.Table.{Field, Store, graphOf, entryAt}
 use Rattle.model.specs.Shapes.{fieldNamed, functorOf}
 use Rattle.laws.specs.Good.{Good}
 use Rattle.image.specs.Records.{fieldAt}
@@ -25,11 +25,11 @@ module _ (fs : List Field) (first count name : ℕ) (h : first + count ≤ lengt
   named-nothing q = sym (named-is fs first count name h) ∙ rw q
 
 module _ (s : Store) (good : Good s) (n : ℕ) (lt : n < length (s .entries)) where
-  pub functor-found : {i : ℕ} → functorRecord s (entryAt (s .entries) n) ≡ At i → functorOf s (entryAt (s .entries) n) ≡ some (fieldAt (s .fields) i)
-  functor-found q = sym (functor-is s (entryAt (s .entries) n) (inside s good n lt)) ∙ rw q
+  pub functor-found : {i : ℕ} → functorRecord (graphOf s) (entryAt (s .entries) n) ≡ At i → functorOf (graphOf s) (entryAt (s .entries) n) ≡ some (fieldAt (s .fields) i)
+  functor-found q = sym (functor-is (graphOf s) (entryAt (s .entries) n) (inside s good n lt)) ∙ rw q
 
-  pub functor-there : {i : ℕ} → functorRecord s (entryAt (s .entries) n) ≡ At i → i < length (s .fields)
-  functor-there q = rw q at (functor-inside s (entryAt (s .entries) n) (inside s good n lt))
+  pub functor-there : {i : ℕ} → functorRecord (graphOf s) (entryAt (s .entries) n) ≡ At i → i < length (s .fields)
+  functor-there q = rw q at (functor-inside (graphOf s) (entryAt (s .entries) n) (inside s good n lt))
 
-  pub functor-nothing : functorRecord s (entryAt (s .entries) n) ≡ Nothing → functorOf s (entryAt (s .entries) n) ≡ none
-  functor-nothing q = sym (functor-is s (entryAt (s .entries) n) (inside s good n lt)) ∙ rw q
+  pub functor-nothing : functorRecord (graphOf s) (entryAt (s .entries) n) ≡ Nothing → functorOf (graphOf s) (entryAt (s .entries) n) ≡ none
+  functor-nothing q = sym (functor-is (graphOf s) (entryAt (s .entries) n) (inside s good n lt)) ∙ rw q

@@ -9,7 +9,7 @@ use lib.Dec.{eqb}
 use types.Run.{OneOf, miss}
 use denote.Enum.Declared.{tagOf}
 use borrow.Author.Tests.{eq-eqb, ne-eqb}
-use Rattle.model.specs.Table.{Entry, Store, entryAt, is}
+use Rattle.model.specs.Table.{Entry, Store, Graph, graphOf, entryAt, is}
 use Rattle.model.specs.Shapes.{disjoint, holdsBy, holdsWithin, holdsVariable, memberBy, memberWithin, unionMember, disjointBy, disjointWithin, disjointFromSup}
 use Rattle.model.specs.Calls.{readOut}
 use Rattle.model.specs.declared.Entry.{Entry as EntryOut}
@@ -79,17 +79,17 @@ module _ (again : ℕ → Bool) (e : Entry) where
   member-read (an-inter q) = rw q
   member-read (a-union q) = rw q
 
-  disjoint-read : (s : Store) (sup : Entry) {o : EntryOut} → Reads e o → disjointBy again s sup e ≡ throughInter again (disjoint s e sup) o
+  disjoint-read : (g : Graph) (sup : Entry) {o : EntryOut} → Reads e o → disjointBy again g sup e ≡ throughInter again (disjoint g e sup) o
   unfolding disjointBy is
-  disjoint-read s sup (a-variable q) = rw q
-  disjoint-read s sup (a-primitive q) = rw q
-  disjoint-read s sup (a-list q) = rw q
-  disjoint-read s sup (a-lambda q) = rw q
-  disjoint-read s sup (an-attrset q) = rw q
-  disjoint-read s sup (a-named q) = rw q
-  disjoint-read s sup (a-neg q) = rw q
-  disjoint-read s sup (an-inter q) = rw q
-  disjoint-read s sup (a-union q) = rw q
+  disjoint-read g sup (a-variable q) = rw q
+  disjoint-read g sup (a-primitive q) = rw q
+  disjoint-read g sup (a-list q) = rw q
+  disjoint-read g sup (a-lambda q) = rw q
+  disjoint-read g sup (an-attrset q) = rw q
+  disjoint-read g sup (a-named q) = rw q
+  disjoint-read g sup (a-neg q) = rw q
+  disjoint-read g sup (an-inter q) = rw q
+  disjoint-read g sup (a-union q) = rw q
 
 -- what is left for the arm `_` of each
 holds-other : (again : ℕ → Bool) (o : EntryOut) → OneOf (1 ∷ 2 ∷ 3 ∷ 4 ∷ 6 ∷ 8 ∷ []) (tagOf the-type o) → false ≡ holdsIn again o
@@ -186,17 +186,17 @@ module _ (s : Store) (good : Good s) where
       (member-read p e r ∙ member-smaller p q n h (readOut e) (under s good n lt (readOut e) refl) ∙ sym (member-read q e r)))
 
   pub disjoint-rounds : (sup : Entry) (rounds i : ℕ) → i < length (s .entries) → i < rounds
-      → disjointWithin rounds s sup i ≡ disjointBy (λ x. disjointFromSup s sup x) s sup (entryAt (s .entries) i)
+      → disjointWithin rounds (graphOf s) sup i ≡ disjointBy (λ x. disjointFromSup (graphOf s) sup x) (graphOf s) sup (entryAt (s .entries) i)
   unfolding disjointWithin disjointFromSup
   disjoint-rounds sup =
-      enough (λ again n. disjointBy again s sup (entryAt (s .entries) n)) (λ r. disjointWithin r s sup) (length (s .entries))
+      enough (λ again n. disjointBy again (graphOf s) sup (entryAt (s .entries) n)) (λ r. disjointWithin r (graphOf s) sup) (length (s .entries))
       (λ r n. refl)
       (λ p q n lt h.
       let e : Entry = entryAt (s .entries) n in
       let r : Reads e (readOut e) = reads s good n lt in
-      disjoint-read p e s sup r
-      ∙ inter-smaller p q n h (disjoint s e sup) (readOut e) (under s good n lt (readOut e) refl)
-      ∙ sym (disjoint-read q e s sup r))
+      disjoint-read p e (graphOf s) sup r
+      ∙ inter-smaller p q n h (disjoint (graphOf s) e sup) (readOut e) (under s good n lt (readOut e) refl)
+      ∙ sym (disjoint-read q e (graphOf s) sup r))
 
   -- a call of each, by the entry that it reads
   module _ (i : ℕ) (lt : i < length (s .entries)) where
@@ -209,9 +209,9 @@ module _ (s : Store) (good : Good s) where
     member-opened m = member-rounds m (suc i) i lt (omega arith) ∙ ap (λ (b : Bool). eqb i m || b) (member-read _ _ (reads s good i lt))
 
     disjoint-opened : (sup : Entry)
-        → disjointFromSup s sup i ≡ throughInter (λ x. disjointFromSup s sup x) (disjoint s (entryAt (s .entries) i) sup) (readOut (entryAt (s .entries) i))
+        → disjointFromSup (graphOf s) sup i ≡ throughInter (λ x. disjointFromSup (graphOf s) sup x) (disjoint (graphOf s) (entryAt (s .entries) i) sup) (readOut (entryAt (s .entries) i))
     unfolding disjointFromSup
-    disjoint-opened sup = disjoint-rounds sup (suc i) i lt (omega arith) ∙ disjoint-read _ _ s sup (reads s good i lt)
+    disjoint-opened sup = disjoint-rounds sup (suc i) i lt (omega arith) ∙ disjoint-read _ _ (graphOf s) sup (reads s good i lt)
 
     module _ {o : EntryOut} (eq : o ≡ readOut (entryAt (s .entries) i)) where
       pub holds-step : holdsVariable (s .entries) i ≡ holdsIn (λ x. holdsVariable (s .entries) x) o
@@ -220,7 +220,7 @@ module _ (s : Store) (good : Good s) where
       pub member-step : (m : ℕ) → (i ≡ m → ⊥) → unionMember (s .entries) m i ≡ memberIn (λ x. unionMember (s .entries) m x) o
       member-step m ne = rw eq (member-opened m ∙ rw (ne-eqb i m ne))
 
-      pub disjoint-step : (sup : Entry) → disjointFromSup s sup i ≡ throughInter (λ x. disjointFromSup s sup x) (disjoint s (entryAt (s .entries) i) sup) o
+      pub disjoint-step : (sup : Entry) → disjointFromSup (graphOf s) sup i ≡ throughInter (λ x. disjointFromSup (graphOf s) sup x) (disjoint (graphOf s) (entryAt (s .entries) i) sup) o
       disjoint-step sup = rw eq (disjoint-opened sup)
 
       -- the arm `_` of each
@@ -230,8 +230,8 @@ module _ (s : Store) (good : Good s) where
       pub member-none : (m : ℕ) → (i ≡ m → ⊥) → OneOf (0 ∷ 1 ∷ 2 ∷ 3 ∷ 4 ∷ 6 ∷ 7 ∷ []) (tagOf the-type o) → false ≡ unionMember (s .entries) m i
       member-none m ne h = member-other (λ x. unionMember (s .entries) m x) o h ∙ sym (member-step m ne)
 
-      pub disjoint-none : (sup : Entry) → OneOf (0 ∷ 1 ∷ 2 ∷ 3 ∷ 4 ∷ 5 ∷ 6 ∷ 8 ∷ []) (tagOf the-type o) → disjoint s (entryAt (s .entries) i) sup ≡ disjointFromSup s sup i
-      disjoint-none sup h = inter-other (λ x. disjointFromSup s sup x) (disjoint s (entryAt (s .entries) i) sup) o h ∙ sym (disjoint-step sup)
+      pub disjoint-none : (sup : Entry) → OneOf (0 ∷ 1 ∷ 2 ∷ 3 ∷ 4 ∷ 5 ∷ 6 ∷ 8 ∷ []) (tagOf the-type o) → disjoint (graphOf s) (entryAt (s .entries) i) sup ≡ disjointFromSup (graphOf s) sup i
+      disjoint-none sup h = inter-other (λ x. disjointFromSup (graphOf s) sup x) (disjoint (graphOf s) (entryAt (s .entries) i) sup) o h ∙ sym (disjoint-step sup)
 
 pub member-self : (es : List Entry) (m n : ℕ) → n ≡ m → true ≡ unionMember es m n
 unfolding unionMember memberWithin

@@ -10,7 +10,7 @@ use denote.Enum.Declared.{tagOf}
 use borrow.Author.Tests.{eq-eqb, ne-eqb, eqb-true}
 use Rattle.model.specs.Lists.{isSome, any}
 use Rattle.model.specs.Format.{int, float, number, primitive, lambda, attrset, named}
-use Rattle.model.specs.Table.{Entry, Field, Store, entryAt, is}
+use Rattle.model.specs.Table.{Entry, Field, Store, Graph, graphOf, entryAt, is}
 use Rattle.model.specs.Shapes.{fieldsOf, functorOf, hasFunctor, underNumber, lacksField, closedLacks, attrsetsDisjoint, hasShape, sameShapeDisjoint, disjoint, compatible}
 use Rattle.model.specs.Calls.{readOut}
 use Rattle.model.specs.declared.Attrset.{Attrset}
@@ -50,40 +50,40 @@ unfolding closedLacksIn
 shut-lacks fs a b q = ap (λ (o : Bool). not o && lacksSome fs a b) (sym q)
 
 -- the functor's record, of an entry that reads out so
-abbrev pub functorBy : Store → EntryOut → Found
-functorBy s (E.Variable l) = Nothing
-functorBy s (E.Primitive p) = Nothing
-functorBy s (E.List x) = Nothing
-functorBy s (E.Lambda p b) = Nothing
-functorBy s (E.AttrSet a) = functorNumber (s .fields) (a .first) (a .count) (s .functor)
-functorBy s (E.Named x l) = Nothing
-functorBy s (E.Neg x) = Nothing
-functorBy s (E.Inter x y) = Nothing
-functorBy s (E.Union x y) = Nothing
+abbrev pub functorBy : Graph → EntryOut → Found
+functorBy g (E.Variable l) = Nothing
+functorBy g (E.Primitive p) = Nothing
+functorBy g (E.List x) = Nothing
+functorBy g (E.Lambda p b) = Nothing
+functorBy g (E.AttrSet a) = functorNumber (g .fields) (a .first) (a .count) (g .functor)
+functorBy g (E.Named x l) = Nothing
+functorBy g (E.Neg x) = Nothing
+functorBy g (E.Inter x y) = Nothing
+functorBy g (E.Union x y) = Nothing
 
-functor-read : (s : Store) (e : Entry) {o : EntryOut} → Reads e o → functorRecord s e ≡ functorBy s o
+functor-read : (g : Graph) (e : Entry) {o : EntryOut} → Reads e o → functorRecord g e ≡ functorBy g o
 unfolding functorRecord is
-functor-read s e (a-variable q) = rw q
-functor-read s e (a-primitive q) = rw q
-functor-read s e (a-list q) = rw q
-functor-read s e (a-lambda q) = rw q
-functor-read s e (an-attrset q) = rw q
-functor-read s e (a-named q) = rw q
-functor-read s e (a-neg q) = rw q
-functor-read s e (an-inter q) = rw q
-functor-read s e (a-union q) = rw q
+functor-read g e (a-variable q) = rw q
+functor-read g e (a-primitive q) = rw q
+functor-read g e (a-list q) = rw q
+functor-read g e (a-lambda q) = rw q
+functor-read g e (an-attrset q) = rw q
+functor-read g e (a-named q) = rw q
+functor-read g e (a-neg q) = rw q
+functor-read g e (an-inter q) = rw q
+functor-read g e (a-union q) = rw q
 
 -- the arm of all but attrsets
-no-functor : (s : Store) (o : EntryOut) → OneOf (0 ∷ 1 ∷ 2 ∷ 3 ∷ 5 ∷ 6 ∷ 7 ∷ 8 ∷ []) (tagOf the-type o) → Nothing ≡ functorBy s o
-no-functor s (E.Variable l) h = refl
-no-functor s (E.Primitive p) h = refl
-no-functor s (E.List x) h = refl
-no-functor s (E.Lambda p b) h = refl
-no-functor s (E.AttrSet a) h = absurd (miss (0 ∷ 1 ∷ 2 ∷ 3 ∷ 5 ∷ 6 ∷ 7 ∷ 8 ∷ []) 4 tt h)
-no-functor s (E.Named x l) h = refl
-no-functor s (E.Neg x) h = refl
-no-functor s (E.Inter x y) h = refl
-no-functor s (E.Union x y) h = refl
+no-functor : (g : Graph) (o : EntryOut) → OneOf (0 ∷ 1 ∷ 2 ∷ 3 ∷ 5 ∷ 6 ∷ 7 ∷ 8 ∷ []) (tagOf the-type o) → Nothing ≡ functorBy g o
+no-functor g (E.Variable l) h = refl
+no-functor g (E.Primitive p) h = refl
+no-functor g (E.List x) h = refl
+no-functor g (E.Lambda p b) h = refl
+no-functor g (E.AttrSet a) h = absurd (miss (0 ∷ 1 ∷ 2 ∷ 3 ∷ 5 ∷ 6 ∷ 7 ∷ 8 ∷ []) 4 tt h)
+no-functor g (E.Named x l) h = refl
+no-functor g (E.Neg x) h = refl
+no-functor g (E.Inter x y) h = refl
+no-functor g (E.Union x y) h = refl
 
 -- which kind an entry of a shape has
 data Shaped (e : Entry) : Shape → Type 0 where
@@ -109,9 +109,9 @@ or-false : (b : Bool) → (b || false) ≡ b
 or-false true = refl
 or-false false = refl
 
-has-callable : (s : Store) (e : Entry) → e .kind ≡ attrset → Inside (s .fields) (attrsetOf e) → hasFunctor s e ≡ callable s (attrsetOf e)
+has-callable : (g : Graph) (e : Entry) → e .kind ≡ attrset → Inside (g .fields) (attrsetOf e) → hasFunctor g e ≡ callable g (attrsetOf e)
 unfolding hasFunctor functorOf callable is fieldsOf
-has-callable s e q h = rw q (functor-some (s .fields) (e .x) (e .y) (s .functor) h)
+has-callable g e q h = rw q (functor-some (g .fields) (e .x) (e .y) (g .functor) h)
 
 pub shaped-inside : (s : Store) (e : Entry) → (e .kind ≡ attrset → e .x + e .y ≤ length (s .fields)) → {o : EntryOut} → Reads e o → ShapeInside (s .fields) (shapeOf o)
 shaped-inside s e h (a-variable q) = tt
@@ -130,44 +130,44 @@ unfolding disjoint hasShape sameShapeDisjoint attrsetsDisjoint closedLacks attrs
 shape-tests = tt
 
 -- of shapes that are known to be these
-pub shapes-are : (s : Store) {a b x y : Shape} → a ≡ x → b ≡ y → shapesDisjoint s x y ≡ shapesDisjoint s a b
-shapes-are s p q = rw (p, q)
+pub shapes-are : (g : Graph) {a b x y : Shape} → a ≡ x → b ≡ y → shapesDisjoint g x y ≡ shapesDisjoint g a b
+shapes-are g p q = rw (p, q)
 
 pub attrset-inside : (fs : List Field) {x : Shape} {a : Attrset} → x ≡ S.AttrSet a → ShapeInside fs x → Inside fs a
 attrset-inside fs p h = rw p at h
 
-module _ (s : Store) (a b : Entry) where
-  lambda-attrset : a .kind ≡ lambda → b .kind ≡ attrset → disjoint s a b ≡ not (hasFunctor s b)
+module _ (g : Graph) (a b : Entry) where
+  lambda-attrset : a .kind ≡ lambda → b .kind ≡ attrset → disjoint g a b ≡ not (hasFunctor g b)
   unfolding disjoint hasShape is
   lambda-attrset p q = rw (p, q)
 
-  attrset-lambda : a .kind ≡ attrset → b .kind ≡ lambda → disjoint s a b ≡ not (hasFunctor s a || false)
+  attrset-lambda : a .kind ≡ attrset → b .kind ≡ lambda → disjoint g a b ≡ not (hasFunctor g a || false)
   unfolding disjoint hasShape is
   attrset-lambda p q = rw (p, q)
 
-  by-shape : {x y : Shape} → Shaped a x → Shaped b y → ShapeInside (s .fields) x → ShapeInside (s .fields) y → disjoint s a b ≡ shapesDisjoint s x y
+  by-shape : {x y : Shape} → Shaped a x → Shaped b y → ShapeInside (g .fields) x → ShapeInside (g .fields) y → disjoint g a b ≡ shapesDisjoint g x y
   unfolding shape-tests
-  by-shape (opaque p) y g h = rw p
-  by-shape (primitively p) (primitively q) g h = rw (p, q)
-  by-shape (primitively p) (listed q) g h = rw (p, q)
-  by-shape (primitively p) (lambdas q) g h = rw (p, q)
-  by-shape (primitively p) (with-fields q) g h = rw (p, q)
-  by-shape (primitively p) (opaque q) g h = rw (p, q)
-  by-shape (listed p) (primitively q) g h = rw (p, q)
-  by-shape (listed p) (listed q) g h = rw (p, q)
-  by-shape (listed p) (lambdas q) g h = rw (p, q)
-  by-shape (listed p) (with-fields q) g h = rw (p, q)
-  by-shape (listed p) (opaque q) g h = rw (p, q)
-  by-shape (lambdas p) (primitively q) g h = rw (p, q)
-  by-shape (lambdas p) (listed q) g h = rw (p, q)
-  by-shape (lambdas p) (lambdas q) g h = rw (p, q)
-  by-shape (lambdas p) (with-fields q) g h = lambda-attrset p q ∙ ap not (has-callable s b q h)
-  by-shape (lambdas p) (opaque q) g h = rw (p, q)
-  by-shape (with-fields p) (primitively q) g h = rw (p, q)
-  by-shape (with-fields p) (listed q) g h = rw (p, q)
-  by-shape (with-fields p) (lambdas q) g h = attrset-lambda p q ∙ ap not (or-false (hasFunctor s a) ∙ has-callable s a p g)
-  by-shape (with-fields p) (with-fields q) g h = rw (p, q)
-  by-shape (with-fields p) (opaque q) g h = rw (p, q)
+  by-shape (opaque p) y l r = rw p
+  by-shape (primitively p) (primitively q) l r = rw (p, q)
+  by-shape (primitively p) (listed q) l r = rw (p, q)
+  by-shape (primitively p) (lambdas q) l r = rw (p, q)
+  by-shape (primitively p) (with-fields q) l r = rw (p, q)
+  by-shape (primitively p) (opaque q) l r = rw (p, q)
+  by-shape (listed p) (primitively q) l r = rw (p, q)
+  by-shape (listed p) (listed q) l r = rw (p, q)
+  by-shape (listed p) (lambdas q) l r = rw (p, q)
+  by-shape (listed p) (with-fields q) l r = rw (p, q)
+  by-shape (listed p) (opaque q) l r = rw (p, q)
+  by-shape (lambdas p) (primitively q) l r = rw (p, q)
+  by-shape (lambdas p) (listed q) l r = rw (p, q)
+  by-shape (lambdas p) (lambdas q) l r = rw (p, q)
+  by-shape (lambdas p) (with-fields q) l r = lambda-attrset p q ∙ ap not (has-callable g b q r)
+  by-shape (lambdas p) (opaque q) l r = rw (p, q)
+  by-shape (with-fields p) (primitively q) l r = rw (p, q)
+  by-shape (with-fields p) (listed q) l r = rw (p, q)
+  by-shape (with-fields p) (lambdas q) l r = attrset-lambda p q ∙ ap not (or-false (hasFunctor g a) ∙ has-callable g a p l)
+  by-shape (with-fields p) (with-fields q) l r = rw (p, q)
+  by-shape (with-fields p) (opaque q) l r = rw (p, q)
 
 -- primitives
 and-true : (b : Bool) → (b && true) ≡ b
@@ -192,8 +192,8 @@ module _ (p q : ℕ) where
   not-under n = rw (ne-eqb q number n) (sym (and-false (eqb p int || eqb p float)))
 
 -- `compatible`, of two kinds that differ
-module _ (s : Store) (a b : Entry) where
-  pub same-kind : a .kind ≡ b .kind → true ≡ compatible s a b
+module _ (g : Graph) (a b : Entry) where
+  pub same-kind : a .kind ≡ b .kind → true ≡ compatible g a b
   unfolding compatible
   same-kind q = rw (eq-eqb _ _ q)
 
@@ -207,19 +207,19 @@ module _ (s : Store) (a b : Entry) where
     no-primitives : (is primitive a && is primitive b && underNumber (a .x) (b .x)) ≡ false
     no-primitives = no-two (is primitive a) (is primitive b) refl refl
 
-    differ : compatible s a b ≡ ((is lambda b && hasFunctor s a) || is named b)
+    differ : compatible g a b ≡ ((is lambda b && hasFunctor g a) || is named b)
     unfolding compatible
     differ = rw (ne-eqb (a .kind) (b .kind) ne, no-primitives)
 
-    pub to-named : b .kind ≡ named → true ≡ compatible s a b
+    pub to-named : b .kind ≡ named → true ≡ compatible g a b
     unfolding is
     to-named q = sym (differ ∙ rw q)
 
-    pub to-lambda : b .kind ≡ lambda → hasFunctor s a ≡ compatible s a b
+    pub to-lambda : b .kind ≡ lambda → hasFunctor g a ≡ compatible g a b
     unfolding is
-    to-lambda q = sym (differ ∙ rw q (or-false (hasFunctor s a)))
+    to-lambda q = sym (differ ∙ rw q (or-false (hasFunctor g a)))
 
-    pub to-other : (b .kind ≡ named → ⊥) → (b .kind ≡ lambda → ⊥) → false ≡ compatible s a b
+    pub to-other : (b .kind ≡ named → ⊥) → (b .kind ≡ lambda → ⊥) → false ≡ compatible g a b
     unfolding is
     to-other n l = sym (differ ∙ rw (ne-eqb (b .kind) lambda l, ne-eqb (b .kind) named n))
 
@@ -228,16 +228,16 @@ module _ (s : Store) (good : Good s) (i : ℕ) (lt : i < length (s .entries)) wh
   pub shape-inside : (o : EntryOut) → o ≡ readOut (entryAt (s .entries) i) → ShapeInside (s .fields) (shapeOf o)
   shape-inside o q = rw q (shaped-inside s (entryAt (s .entries) i) (inside s good i lt) (reads s good i lt))
 
-  pub functor-at : (o : EntryOut) → o ≡ readOut (entryAt (s .entries) i) → functorRecord s (entryAt (s .entries) i) ≡ functorBy s o
-  functor-at o q = rw q (functor-read s (entryAt (s .entries) i) (reads s good i lt))
+  pub functor-at : (o : EntryOut) → o ≡ readOut (entryAt (s .entries) i) → functorRecord (graphOf s) (entryAt (s .entries) i) ≡ functorBy (graphOf s) o
+  functor-at o q = rw q (functor-read (graphOf s) (entryAt (s .entries) i) (reads s good i lt))
 
-  pub functor-none : (o : EntryOut) → o ≡ readOut (entryAt (s .entries) i) → OneOf (0 ∷ 1 ∷ 2 ∷ 3 ∷ 5 ∷ 6 ∷ 7 ∷ 8 ∷ []) (tagOf the-type o) → Nothing ≡ functorRecord s (entryAt (s .entries) i)
-  functor-none o q h = no-functor s o h ∙ sym (functor-at o q)
+  pub functor-none : (o : EntryOut) → o ≡ readOut (entryAt (s .entries) i) → OneOf (0 ∷ 1 ∷ 2 ∷ 3 ∷ 5 ∷ 6 ∷ 7 ∷ 8 ∷ []) (tagOf the-type o) → Nothing ≡ functorRecord (graphOf s) (entryAt (s .entries) i)
+  functor-none o q h = no-functor (graphOf s) o h ∙ sym (functor-at o q)
 
 pub disjoint-by : (s : Store) (good : Good s) (i j : ℕ) → i < length (s .entries) → j < length (s .entries)
     → (o p : EntryOut) → o ≡ readOut (entryAt (s .entries) i) → p ≡ readOut (entryAt (s .entries) j)
-    → shapesDisjoint s (shapeOf o) (shapeOf p) ≡ disjoint s (entryAt (s .entries) i) (entryAt (s .entries) j)
+    → shapesDisjoint (graphOf s) (shapeOf o) (shapeOf p) ≡ disjoint (graphOf s) (entryAt (s .entries) i) (entryAt (s .entries) j)
 disjoint-by s good i j li lj o p q r =
     let a : Entry = entryAt (s .entries) i in
     let b : Entry = entryAt (s .entries) j in
-    rw (q, r) (sym (by-shape s a b (shaped a (reads s good i li)) (shaped b (reads s good j lj)) (shape-inside s good i li (readOut a) refl) (shape-inside s good j lj (readOut b) refl)))
+    rw (q, r) (sym (by-shape (graphOf s) a b (shaped a (reads s good i li)) (shaped b (reads s good j lj)) (shape-inside s good i li (readOut a) refl) (shape-inside s good j lj (readOut b) refl)))

@@ -6,7 +6,7 @@ use mathlib.Core.Bool.{Bool, true, false, cond}
 use lib.ListN.{length, take, drop}
 use lib.Dec.{eqb}
 use Rattle.model.specs.Format.{attrset}
-use Rattle.model.specs.Table.{Entry, Field, Store, is}
+use Rattle.model.specs.Table.{Entry, Field, Graph, is}
 use Rattle.model.specs.declared.Attrset.{Attrset}
 use Rattle.image.specs.Records.{fieldAt}
 use Rattle.disjoint.specs.declared.Found.{Found}
@@ -33,8 +33,8 @@ unfoldable pub functorNumber : List Field → (first count : ℕ) → ℕ → Fo
 functorNumber fs first count zero = Nothing
 functorNumber fs first count (suc name) = numberNamed fs first count name
 
-unfoldable pub functorRecord : Store → Entry → Found
-functorRecord s e = cond (is attrset e) (functorNumber (s .fields) (e .x) (e .y) (s .functor)) Nothing
+unfoldable pub functorRecord : Graph → Entry → Found
+functorRecord g e = cond (is attrset e) (functorNumber (g .fields) (e .x) (e .y) (g .functor)) Nothing
 
 abbrev pub isFound : Found → Bool
 isFound (At i) = true

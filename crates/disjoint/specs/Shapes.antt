@@ -2,7 +2,7 @@
 use mathlib.Core.List.{List}
 use mathlib.Core.Bool.{Bool, true, false, not, _&&_, _||_}
 use Rattle.model.specs.Lists.{any}
-use Rattle.model.specs.Table.{Field, Store}
+use Rattle.model.specs.Table.{Field, Graph}
 use Rattle.model.specs.Shapes.{primitivesDisjoint, lacksField}
 use Rattle.model.specs.declared.Attrset.{Attrset}
 use Rattle.model.specs.declared.Entry.{Entry as EntryOut}
@@ -42,31 +42,31 @@ unfoldable pub attrsetsDisjointIn : List Field → Attrset → Attrset → Bool
 attrsetsDisjointIn fs a b = closedLacksIn fs a b || closedLacksIn fs b a
 
 -- the attrset has a field `__functor`
-unfoldable pub callable : Store → Attrset → Bool
-callable s a = isFound (functorNumber (s .fields) (a .first) (a .count) (s .functor))
+unfoldable pub callable : Graph → Attrset → Bool
+callable g a = isFound (functorNumber (g .fields) (a .first) (a .count) (g .functor))
 
-abbrev pub shapesDisjoint : Store → Shape → Shape → Bool
-shapesDisjoint s (S.Primitive p) (S.Primitive q) = primitivesDisjoint p q
-shapesDisjoint s (S.Primitive p) (S.AttrSet b) = true
-shapesDisjoint s (S.Primitive p) S.List = true
-shapesDisjoint s (S.Primitive p) S.Lambda = true
-shapesDisjoint s (S.Primitive p) S.Opaque = false
-shapesDisjoint s (S.AttrSet a) (S.Primitive q) = true
-shapesDisjoint s (S.AttrSet a) (S.AttrSet b) = attrsetsDisjointIn (s .fields) a b
-shapesDisjoint s (S.AttrSet a) S.List = true
-shapesDisjoint s (S.AttrSet a) S.Lambda = not (callable s a)
-shapesDisjoint s (S.AttrSet a) S.Opaque = false
-shapesDisjoint s S.List (S.Primitive q) = true
-shapesDisjoint s S.List (S.AttrSet b) = true
-shapesDisjoint s S.List S.List = false
-shapesDisjoint s S.List S.Lambda = true
-shapesDisjoint s S.List S.Opaque = false
-shapesDisjoint s S.Lambda (S.Primitive q) = true
-shapesDisjoint s S.Lambda (S.AttrSet b) = not (callable s b)
-shapesDisjoint s S.Lambda S.List = true
-shapesDisjoint s S.Lambda S.Lambda = false
-shapesDisjoint s S.Lambda S.Opaque = false
-shapesDisjoint s S.Opaque b = false
+abbrev pub shapesDisjoint : Graph → Shape → Shape → Bool
+shapesDisjoint g (S.Primitive p) (S.Primitive q) = primitivesDisjoint p q
+shapesDisjoint g (S.Primitive p) (S.AttrSet b) = true
+shapesDisjoint g (S.Primitive p) S.List = true
+shapesDisjoint g (S.Primitive p) S.Lambda = true
+shapesDisjoint g (S.Primitive p) S.Opaque = false
+shapesDisjoint g (S.AttrSet a) (S.Primitive q) = true
+shapesDisjoint g (S.AttrSet a) (S.AttrSet b) = attrsetsDisjointIn (g .fields) a b
+shapesDisjoint g (S.AttrSet a) S.List = true
+shapesDisjoint g (S.AttrSet a) S.Lambda = not (callable g a)
+shapesDisjoint g (S.AttrSet a) S.Opaque = false
+shapesDisjoint g S.List (S.Primitive q) = true
+shapesDisjoint g S.List (S.AttrSet b) = true
+shapesDisjoint g S.List S.List = false
+shapesDisjoint g S.List S.Lambda = true
+shapesDisjoint g S.List S.Opaque = false
+shapesDisjoint g S.Lambda (S.Primitive q) = true
+shapesDisjoint g S.Lambda (S.AttrSet b) = not (callable g b)
+shapesDisjoint g S.Lambda S.List = true
+shapesDisjoint g S.Lambda S.Lambda = false
+shapesDisjoint g S.Lambda S.Opaque = false
+shapesDisjoint g S.Opaque b = false
 
 -- opens all that stands above
 unfoldable pub by-shape : Unit {0}

@@ -10,7 +10,7 @@ ghost use Rattle.model.specs.Shapes.{hasFunctor, primitivesDisjoint, lacksField
 ghost use Rattle.model.specs.Shapes.{disjoint as sharesNone, compatible as couldBeUnder};
 ghost use Rattle.laws.specs.Good.{Good};
 ghost use Rattle.image.specs.Laid.{Laid};
-ghost use Rattle.image.specs.Shown.{storeOf, entriesOf, fieldsIn};
+ghost use Rattle.image.specs.Shown.{storeOf, graphIn, entriesOf, fieldsIn};
 ghost use Rattle.image.specs.Records.{fieldAt};
 ghost use Rattle.disjoint.specs.Fields.{Inside, fieldsHeld, numberNamed, functorNumber, functorRecord, isFound};
 ghost use Rattle.disjoint.specs.Shapes.{shapeOf, ShapeInside, lacksSome, closedLacksIn, attrsetsDisjointIn, callable, shapesDisjoint};
@@ -76,7 +76,7 @@ pub fn functor_of(image: &[u32], n: u32) -> Found
     requires { ⌜ Laid (now image) ⌝ }
     requires { ⌜ Good (storeOf (now image)) ⌝ }
     requires { ⌜ n < length (entriesOf (now image)) ⌝ }
-    ensures { λ r. ⌜ r ≡ functorRecord (storeOf (now (image .entry))) (entryAt (entriesOf (now (image .entry))) n) ⌝ }
+    ensures { λ r. ⌜ r ≡ functorRecord (graphIn (now (image .entry))) (entryAt (entriesOf (now (image .entry))) n) ⌝ }
 {
     let e = image::entry(image, n);
     let Entry::AttrSet(a) = e else {
@@ -90,7 +90,7 @@ pub fn has_functor(image: &[u32], n: u32) -> bool
     requires { ⌜ Laid (now image) ⌝ }
     requires { ⌜ Good (storeOf (now image)) ⌝ }
     requires { ⌜ n < length (entriesOf (now image)) ⌝ }
-    ensures { λ r. ⌜ r ≡ hasFunctor (storeOf (now (image .entry))) (entryAt (entriesOf (now (image .entry))) n) ⌝ }
+    ensures { λ r. ⌜ r ≡ hasFunctor (graphIn (now (image .entry))) (entryAt (entriesOf (now (image .entry))) n) ⌝ }
 {
     is_found(functor_of(image, n))
 }
@@ -99,7 +99,7 @@ pub fn has_functor(image: &[u32], n: u32) -> bool
 fn is_callable(image: &[u32], a: Attrset) -> bool
     requires { ⌜ Laid (now image) ⌝ }
     requires { ⌜ Inside (fieldsIn (now image)) a ⌝ }
-    ensures { λ r. ⌜ r ≡ callable (storeOf (now (image .entry))) a ⌝ }
+    ensures { λ r. ⌜ r ≡ callable (graphIn (now (image .entry))) a ⌝ }
 {
     is_found(functor_among(image, a.first, a.count))
 }
@@ -210,7 +210,7 @@ fn are_shapes_disjoint(image: &[u32], a: Shape, b: Shape) -> bool
     requires { ⌜ Laid (now image) ⌝ }
     requires { ⌜ ShapeInside (fieldsIn (now image)) a ⌝ }
     requires { ⌜ ShapeInside (fieldsIn (now image)) b ⌝ }
-    ensures { λ r. ⌜ r ≡ shapesDisjoint (storeOf (now (image .entry))) a b ⌝ }
+    ensures { λ r. ⌜ r ≡ shapesDisjoint (graphIn (now (image .entry))) a b ⌝ }
 {
     match a {
         Shape::Primitive(p) => match b {
@@ -251,7 +251,7 @@ pub fn disjoint(image: &[u32], a: u32, b: u32) -> bool
     requires { ⌜ Good (storeOf (now image)) ⌝ }
     requires { ⌜ a < length (entriesOf (now image)) ⌝ }
     requires { ⌜ b < length (entriesOf (now image)) ⌝ }
-    ensures { λ r. ⌜ r ≡ sharesNone (storeOf (now (image .entry))) (entryAt (entriesOf (now (image .entry))) a) (entryAt (entriesOf (now (image .entry))) b) ⌝ }
+    ensures { λ r. ⌜ r ≡ sharesNone (graphIn (now (image .entry))) (entryAt (entriesOf (now (image .entry))) a) (entryAt (entriesOf (now (image .entry))) b) ⌝ }
 {
     let sub = shape_of(image::entry(image, a));
     let sup = shape_of(image::entry(image, b));
@@ -265,7 +265,7 @@ pub fn compatible(image: &[u32], a: u32, b: u32) -> bool
     requires { ⌜ Good (storeOf (now image)) ⌝ }
     requires { ⌜ a < length (entriesOf (now image)) ⌝ }
     requires { ⌜ b < length (entriesOf (now image)) ⌝ }
-    ensures { λ r. ⌜ r ≡ couldBeUnder (storeOf (now (image .entry))) (entryAt (entriesOf (now (image .entry))) a) (entryAt (entriesOf (now (image .entry))) b) ⌝ }
+    ensures { λ r. ⌜ r ≡ couldBeUnder (graphIn (now (image .entry))) (entryAt (entriesOf (now (image .entry))) a) (entryAt (entriesOf (now (image .entry))) b) ⌝ }
 {
     let target = image::entry_word(image, b, image::KIND_WORD);
     if image::entry_word(image, a, image::KIND_WORD) == target {
@@ -332,7 +332,7 @@ pub fn disjoint_from_sup(image: &[u32], sup: u32, n: u32) -> bool
     requires { ⌜ Good (storeOf (now image)) ⌝ }
     requires { ⌜ sup < length (entriesOf (now image)) ⌝ }
     requires { ⌜ n < length (entriesOf (now image)) ⌝ }
-    ensures { λ r. ⌜ r ≡ disjointFromSup (storeOf (now (image .entry))) (entryAt (entriesOf (now (image .entry))) sup) n ⌝ }
+    ensures { λ r. ⌜ r ≡ disjointFromSup (graphIn (now (image .entry))) (entryAt (entriesOf (now (image .entry))) sup) n ⌝ }
 {
     let e = image::entry(image, n);
     match e {

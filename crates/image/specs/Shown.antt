@@ -3,7 +3,7 @@ use Prim.Native.Nat.{ℕ, _≤_}
 use mathlib.Core.Path.{_≡_}
 use mathlib.Core.List.{List}
 use lib.ListN.{length}
-use Rattle.model.specs.Table.{Entry, Field, Bound, Pair, Break, Store, Table, tableOf, withLevel, withBroken, withEntries, withFields, withBounds, withVisited, withEquals}
+use Rattle.model.specs.Table.{Entry, Field, Bound, Pair, Break, Store, Graph, Table, tableOf, graphOf, withLevel, withBroken, withEntries, withFields, withBounds, withVisited, withEquals}
 use Rattle.model.specs.Image.{words, table}
 use Rattle.laws.specs.Good.{Held, Small}
 
@@ -24,6 +24,9 @@ Shown w = Shows w (table w)
 -- what is read off words
 abbrev pub storeOf : List ℕ → Store
 storeOf w = table w .store
+
+abbrev pub graphIn : List ℕ → Graph
+graphIn w = graphOf (table w .store)
 
 abbrev pub entriesOf : List ℕ → List Entry
 entriesOf w = table w .store .entries

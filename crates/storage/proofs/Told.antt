@@ -42,7 +42,7 @@ not-scanned l b n e h = sym (rw (lt-leb (length l) scanMost (omega arith)))
 module _ (w : List ℕ) (v side b : ℕ) (good : T (wellFormed w)) where
   module _ (r : repeats (boundsIn (boundsAll w) v side) b ≡ true) where
     same-reply : boundReply w v side b ≡ record { says = done []; steps = 0; words = words (table w) }
-    unfolding replyOf leaveIfRoom leaveBy addBound
+    unfolding replyOf leaveIfRoom leaveBy addBound withBounds
     same-reply =
         let s = sound-table w good in
         rw (r, fitting-enough (storeOf w) (length (pendingIn w)) (s .store .held) (s .pending .held) (s .store .shallow))

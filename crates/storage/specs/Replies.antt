@@ -5,16 +5,15 @@ use mathlib.Core.Bool.{not}
 use lib.Dec.{ltb}
 use Rattle.model.specs.Lists.{isZero}
 use Rattle.model.specs.Format.{wordEnd}
-use Rattle.model.specs.Table.{tableOf}
 use Rattle.model.specs.Image.{table}
 use Rattle.model.specs.Making.{addBound}
 use Rattle.model.specs.Calls.{Reply, replyOf, leaveIfRoom, whenLevel, atLevel}
 use Rattle.model.specs.Told.{done}
-use Rattle.image.specs.Shown.{storeOf, pendingIn}
+use Rattle.image.specs.Shown.{storeOf, boundsAll, boundsTo}
 
 -- done, or NO ROOM with every word as found
 abbrev pub boundReply : List ℕ → ℕ → ℕ → ℕ → Reply
-boundReply w v side b = replyOf w (leaveIfRoom (done []) (tableOf (addBound v side b (storeOf w)) (pendingIn w)))
+boundReply w v side b = replyOf w (leaveIfRoom (done []) (boundsTo w (addBound v side b (boundsAll w))))
 
 -- done, or LEVEL with every word as found
 abbrev pub enterReply : List ℕ → Reply

@@ -6,14 +6,13 @@ ghost use Prim.Native.Nat.{_<_, _≤_};
 ghost use lib.ListN.{length};
 ghost use lib.Dec.{T, eqb};
 ghost use Rattle.model.specs.Lists.{any};
-ghost use Rattle.model.specs.Table.{tableOf};
 ghost use Rattle.model.specs.Image.{words};
 ghost use Rattle.model.specs.Making.{boundsIn, repeats, changed, markEntry};
 ghost use Rattle.model.specs.Formed.{wellFormed};
 ghost use Rattle.model.specs.Calls.{withX};
 ghost use Rattle.model.specs.Told.{bit, toldReply};
 ghost use Rattle.image.specs.Laid.{Laid};
-ghost use Rattle.image.specs.Shown.{Shown, storeOf, entriesOf, boundsAll, pendingIn, entriesTo};
+ghost use Rattle.image.specs.Shown.{Shown, entriesOf, boundsAll, entriesTo};
 ghost use Rattle.image.specs.Records.{boundAt};
 ghost use Rattle.storage.specs.Bounds.{belongsTo, isBound};
 ghost use Rattle.storage.specs.Replies.{boundReply, enterReply, exitReply};
@@ -114,7 +113,7 @@ pub fn put_bound(image: &mut [u32], v: u32, side: u32, b: u32) -> Reply
 pub fn mark(image: &mut [u32], n: u32)
     requires { ⌜ Shown (now image) ⌝ }
     requires { ⌜ n < length (entriesOf (now image)) ⌝ }
-    ensures { λ _. ⌜ now (image .exit) ≡ words (tableOf (markEntry n (storeOf (now (image .entry)))) (pendingIn (now (image .entry)))) ⌝ }
+    ensures { λ _. ⌜ now (image .exit) ≡ words (entriesTo (now (image .entry)) (markEntry n (entriesOf (now (image .entry))))) ⌝ }
 {
     image::put_mark(image, n);
 }
