@@ -27,16 +27,25 @@ module _ {T P F : Type 0} (rule : T → P → Outcome T P F) (calls : Calls T P)
     begun : {t : T} → calls .Starts t → History t []
     next : {t u : T} {r q : List P} → History t r → Event t r u q → History u q
 
+-- the first that there is
+unfoldable pub firstOf : {F : Type 0} → Option F → Option F → Option F
+firstOf (some f) o = some f
+firstOf none o = o
+
 module _ {T P F : Type 0} {rule : T → P → Outcome T P F} {calls : Calls T P} where
-  -- the first failure, if a question has failed
-  unfoldable pub failure-by : {t u : T} {r q : List P} → Event rule calls t r u q → Option F → Option F
-  failure-by e (some f) = some f
-  failure-by (opens e o) none = none
-  failure-by (steps before p qs e g d) none = none
-  failure-by (breaks before p f e g d) none = some f
-  failure-by (quits o d) none = none
-  failure-by (changes o e d) none = none
+  -- the first failure, where a question has failed
+  unfoldable pub failure-of : {t u : T} {r q : List P} → Event rule calls t r u q → Option F
+  failure-of (opens e o) = none
+  failure-of (steps before p qs e g d) = none
+  failure-of (breaks before p f e g d) = some f
+  failure-of (quits o d) = none
+  failure-of (changes o e d) = none
 
   unfoldable pub first-failure : {t : T} {r : List P} → History rule calls t r → Option F
   first-failure (begun s) = none
-  first-failure (next h e) = failure-by e (first-failure h)
+  first-failure (next h e) = firstOf (first-failure h) (failure-of e)
+
+-- a history with this first failure
+module _ {T P F : Type 0} (rule : T → P → Outcome T P F) (calls : Calls T P) where
+  abbrev pub Past : Option F → T → List P → Type 0
+  Past o t r = (h : History rule calls t r) × (first-failure h ≡ o)

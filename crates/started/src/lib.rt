@@ -1,0 +1,1 @@
+// Tables started by us: their histories, definitions and laws alone, no code.
