@@ -2,15 +2,16 @@
 -- calls, and its first failure is the first that a call told. Assumes nothing.
 use Prim.Native.Nat.{ℕ, _<_}
 use mathlib.Core.Path.{_≡_}
-use mathlib.Core.List.{List, [], _∷_}
+use mathlib.Core.List.{List, [], _∷_, _++_}
 use mathlib.Core.Option.{Option, none, some}
-use mathlib.Core.Bool.{cond}
+use mathlib.Core.Bool.{false, cond}
 use lib.ListN.{getD}
 use lib.Dec.{T, eqb}
 use Rattle.histories.specs.Histories.{Calls, firstOf, Past}
 use Rattle.model.specs.Format.{wordEnd, unbroken, mismatched}
 use Rattle.model.specs.Table.{Pair, Break, Capacities, Store, tableOf}
-use Rattle.model.specs.Rules.{breakOf, rule}
+use Rattle.model.specs.Lists.{any}
+use Rattle.model.specs.Rules.{samePair, breakOf, rule}
 use Rattle.model.specs.Told.{Told, done, yes, more, failed, refused}
 use Rattle.model.specs.Calls.{leave, emptyTable, capacitiesRight, start, opened, Call, turnOf, perform}
 use Rattle.model.specs.declared.Question.{Question}
@@ -69,3 +70,8 @@ firstTold (called {ws = ws} c fits o) = firstOf (firstTold o) (failureIn (perfor
 unfoldable pub breakBy : Option Failure → Break
 breakBy none = record { kind = unbroken; sub = 0; sup = 0; name = 0 }
 breakBy (some f) = breakOf f
+
+-- pairs of which each is none of those before it
+pub data Once : List Pair → Type 0 where
+  no-more : Once []
+  once-more : {ps : List Pair} (p : Pair) → Once ps → any (samePair p) ps ≡ false → Once (ps ++ (p ∷ []))
