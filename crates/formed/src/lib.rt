@@ -1,6 +1,9 @@
 // Whether lent words are a well formed image: a function for each condition of document 01, named as the model's test that it
-// decides, and `check`, which is all of them. An image is nearly always well formed: a test of many words does not stop early, and
-// so vectorises. The bounds do stop: their variables are looked up one by one, and there branches never taken cost least.
+// decides, and `check`, which is all of them; `admit` says which refusal an unfit image gets. An image is nearly always well formed:
+// a test of many words does not stop early, and so vectorises. The bounds do stop: their variables are looked up one by one, and
+// there branches never taken cost least.
+use model::Admission;
+use model::Refusal;
 ghost use mathlib.Core.Path.{_≡_};
 ghost use mathlib.Core.Bool.{cond, _&&_};
 ghost use Prim.Native.Nat.{_+_, _*_, _≤_, _<_};
@@ -12,6 +15,7 @@ ghost use Rattle.model.specs.Table.{entryAt, isAt};
 ghost use Rattle.model.specs.Image.{offset, capacity, count, pairOf, recordsOf, table};
 ghost use Rattle.model.specs.Making.{spreadAt, spreadOf};
 ghost use Rattle.model.specs.Formed.{regionEnd, restZero, isEntry, pairRight, breakRight, oneComponent, twoComponents, hasDynamicType, kindKnown, primitiveKnown, componentsBelow, unusedZero, flagsKnown, spreadRight, negationKnown, fieldsRight, fieldRight, boundRight, recordsRight, wellFormed};
+ghost use Rattle.model.specs.Calls.{admission};
 ghost use Rattle.image.specs.Laid.{Laid};
 ghost use Rattle.image.specs.Shown.{storeOf, entriesOf, fieldsIn, boundsAll};
 ghost use Rattle.image.specs.Records.{fieldAt, boundAt};
@@ -499,4 +503,15 @@ pub fn check(image: &[u32]) -> bool
         return false;
     }
     rests_zero(image) & records_right(image)
+}
+
+// Whether an image is fit for a call: good, or which refusal.
+pub fn admit(image: &[u32]) -> Admission
+    ensures { λ r. ⌜ r ≡ admission (now (image .entry)) ⌝ }
+{
+    if check(image) {
+        Admission::Good
+    } else {
+        Admission::Unfit(Refusal::BadTable)
+    }
 }

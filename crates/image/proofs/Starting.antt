@@ -13,7 +13,7 @@ use Rattle.model.specs.Lists.{allOf, flat}
 use Rattle.model.specs.Format.{namesMost}
 use Rattle.model.specs.Table.{Capacities, stateOf}
 use Rattle.model.specs.Image.{region, header, words, imageLength}
-use Rattle.model.specs.Calls.{emptyTable, capacitiesRight, start, replyOf}
+use Rattle.model.specs.Calls.{emptyTable, capacitiesRight, start, replyOf, provided}
 use Rattle.model.specs.Told.{done, toldRefusal}
 use Rattle.model.specs.declared.Refusal.the-variants.{BadCapacity}
 use Rattle.laws.specs.Good.{Small}
@@ -94,12 +94,12 @@ right-size names functor c w h = sym (eq-of _ _ (nth _ 6 h))
 
 module _ (names functor : ℕ) (c : Capacities) (w : List ℕ) where
   pub start-refused : capacitiesRight names functor c w ≡ false → (toldRefusal BadCapacity ≡ start names functor c w .says) × (w ≡ start names functor c w .words)
-  unfolding start replyOf
+  unfolding start replyOf provided
   start-refused e = (rw e, rw e)
 
   pub start-done : capacitiesRight names functor c w ≡ true → (u v : List ℕ) → u ≡ replicate (length w) 0 → v ≡ headed u names functor c
       → (done [] ≡ start names functor c w .says) × (v ≡ start names functor c w .words)
-  unfolding start replyOf
+  unfolding start replyOf provided
   start-done e u v p q =
       let h = right-size names functor c w (of-true _ e) in
       (rw e, rw e (q ∙ ap (λ (l : List ℕ). headed l names functor c) p ∙ started names functor c (length w) h))

@@ -1,15 +1,13 @@
 -- No two answers tell the same: a promise about what is told settles the answer. Assumes nothing.
 use Prim.Native.Nat.{ℕ}
 use native.Mathlib.Omega.{arith}
-use mathlib.Core.Path.{_≡_, refl, sym, ap, _∙_}
+use mathlib.Core.Path.{_≡_, refl, sym, ap}
 use mathlib.Core.List.{List, [], _∷_}
-use mathlib.Core.Bool.{false, cond}
+use mathlib.Core.Bool.{cond}
 use lib.Dec.{eqb}
 use Rattle.model.specs.Told.{done, toldRefusal}
 use Rattle.model.specs.declared.Refusal.{Refusal}
-use Rattle.model.specs.declared.Refusal.the-variants as R
 use Rattle.model.proofs.OneToOne.{found-once, refusal-one-to-one}
-use Rattle.names.specs.Names.{accepted}
 use Rattle.names.specs.Answers.{toldCounted, toldOrder, toldCompared, toldFound, toldPlaced}
 use Rattle.names.specs.declared.Counted.{Counted}
 use Rattle.names.specs.declared.Counted.the-variants as C
@@ -23,25 +21,8 @@ use Rattle.names.specs.declared.Placed.{Placed}
 use Rattle.names.specs.declared.Placed.the-variants as P
 
 -- what a call tells where it is done is no refusal
-refusal-refuses : (r : Refusal) → accepted (toldRefusal r) ≡ false
-refusal-refuses R.BadTable = refl
-refusal-refuses R.BadNumber = refl
-refusal-refuses R.Busy = refl
-refusal-refuses R.Idle = refl
-refusal-refuses (R.NoRoom region) = refl
-refusal-refuses R.TooDeep = refl
-refusal-refuses R.BadFields = refl
-refusal-refuses (R.Broken kind sub sup name) = refl
-refusal-refuses R.BadCapacity = refl
-refusal-refuses R.Level = refl
-refusal-refuses R.NotAVariable = refl
-refusal-refuses R.BadNames = refl
-
 pub done-refused : (vs : List ℕ) (r : Refusal) → done vs ≡ toldRefusal r → ⊥
-done-refused vs r e =
-    let no : accepted (done vs) ≡ false = ap accepted e ∙ refusal-refuses r in
-    let z : _≡_ {A = ℕ} 0 1 = cc in
-    omega arith
+done-refused vs r e = let z : _≡_ {A = ℕ} 0 1 = cc in omega arith
 
 pub counted-one-to-one : (a b : Counted) → toldCounted a ≡ toldCounted b → a ≡ b
 counted-one-to-one (C.Count m) (C.Count n) e = cc

@@ -13,11 +13,12 @@ use Rattle.model.specs.Table.{Pair, _⊑_, Store, Table, tableOf, stateOf, isAs
 use Rattle.model.specs.Image.{words, table}
 use Rattle.model.specs.Formed.{wellFormed, isEntry}
 use Rattle.model.specs.Room.{fitting}
-use Rattle.model.specs.Calls.{Reply, Turn, refuse, leave, replyOf, whenIdle, whenNumbered, whenAsked, leaveBy, leaveIfRoom, brokenBy, question, askTurn, equalled, askEqualTurn, abandonTurn, workTurn}
+use Rattle.model.specs.Calls.{Reply, Turn, refuse, leave, replyOf, provided, whenAsked, leaveBy, leaveIfRoom, brokenBy, question, askTurn, equalled, askEqualTurn, abandonTurn, workTurn}
 use Rattle.model.specs.Told.{Told, done, toldRefusal}
 use Rattle.model.specs.declared.Refusal.{Refusal}
 use Rattle.model.specs.declared.Refusal.the-variants.{BadNumber, Busy, Idle, Broken, NoRoom}
 use Rattle.laws.specs.Good.{Held, Shallow, SoundStore}
+use Rattle.laws.proofs.Replies.{refused-by, passed-by}
 use Rattle.laws.proofs.Tests.{no-test, of-true, le-of}
 use Rattle.laws.proofs.Formed.{sound-table}
 use Rattle.laws.proofs.StepSound.{fitting-enough}
@@ -42,28 +43,28 @@ is-broken held t kind s k e = subst (λ (n : ℕ). (held && not (eqb n 0)) ≡ t
 module _ (w : List ℕ) (held : Bool) (a b : ℕ) (opened : Table) where
   -- 3
   pub asked-already : isAsked (table w) ≡ true → question held a b (table w) opened ≡ refuse Busy
-  unfolding question whenIdle
+  unfolding question provided
   asked-already e = rw e
 
   module _ (i : isAsked (table w) ≡ false) where
     -- 8
     pub held-broken : (held && isBroken (storeOf w)) ≡ true → (kind sub sup name : ℕ) → kind ≡ storeOf w .broken .kind → sub ≡ storeOf w .broken .sub
         → sup ≡ storeOf w .broken .sup → name ≡ storeOf w .broken .name → question held a b (table w) opened ≡ refuse (Broken kind sub sup name)
-    unfolding question whenIdle brokenBy
+    unfolding question provided brokenBy
     held-broken e kind sub sup name k l m n = rw (i, e, k, l, m, n)
 
     module _ (u : (held && isBroken (storeOf w)) ≡ false) where
       -- 2
       pub no-first : length (entriesOf w) ≤ a → question held a b (table w) opened ≡ refuse BadNumber
-      unfolding question whenIdle whenNumbered isEntry
+      unfolding question provided isEntry
       no-first h = rw (i, u, le-ltb a (length (entriesOf w)) h)
 
       pub no-second : length (entriesOf w) ≤ b → question held a b (table w) opened ≡ refuse BadNumber
-      unfolding question whenIdle whenNumbered isEntry
+      unfolding question provided isEntry
       no-second h = rw (i, u, le-ltb b (length (entriesOf w)) h, and-false)
 
       pub fit : a < length (entriesOf w) → b < length (entriesOf w) → question held a b (table w) opened ≡ leaveIfRoom (done []) opened
-      unfolding question whenIdle whenNumbered isEntry
+      unfolding question provided isEntry
       fit h k = rw (i, u, lt-ltb a (length (entriesOf w)) h, lt-ltb b (length (entriesOf w)) k)
 
 -- a reply where a call is refused
@@ -91,12 +92,10 @@ lacks-so w turn t r e f =
 
 -- "work or abandon while idle"
 pub idle-so : (w : List ℕ) (turn : Turn) → isAsked (table w) ≡ false → whenAsked (table w) turn ≡ refuse Idle
-unfolding whenAsked
-idle-so w turn e = rw e
+idle-so w turn = refused-by (isAsked (table w)) Idle turn
 
 pub asked-so : (w : List ℕ) (turn : Turn) → isAsked (table w) ≡ true → whenAsked (table w) turn ≡ turn
-unfolding whenAsked
-asked-so w turn e = rw e
+asked-so w turn = passed-by (isAsked (table w)) Idle turn
 
 pub abandoned : (w v : List ℕ) → isAsked (table w) ≡ true → v ≡ words (tableOf (storeOf w) [])
     → (done [] ≡ replyOf w (abandonTurn (table w)) .says) × (v ≡ replyOf w (abandonTurn (table w)) .words)

@@ -14,7 +14,7 @@ use Rattle.model.specs.Image.{words, table}
 use Rattle.model.specs.Formed.{wellFormed}
 use Rattle.model.specs.Making.{boundsIn, repeats, addBound}
 use Rattle.model.specs.Room.{fitting}
-use Rattle.model.specs.Calls.{Reply, replyOf, leaveBy, leaveIfRoom, whenLevel, atLevel}
+use Rattle.model.specs.Calls.{Reply, replyOf, leaveBy, leaveIfRoom, provided, atLevel}
 use Rattle.model.specs.Told.{Told, done, refused}
 use Rattle.laws.proofs.Formed.{sound-table}
 use Rattle.laws.proofs.StepSound.{fitting-enough}
@@ -84,14 +84,14 @@ module _ (w : List ℕ) (v side b : ℕ) (good : T (wellFormed w)) where
 -- a level entered, and left
 module _ (w : List ℕ) (l : ℕ) (e : l ≡ storeOf w .level) where
   enter-last : l ≡ 4294967295 → enterReply w ≡ record { says = refused 10 []; steps = 0; words = w }
-  unfolding replyOf whenLevel
+  unfolding replyOf provided
   enter-last h = rw (le-ltb (suc (storeOf w .level)) wordEnd (omega arith))
 
   pub enter-refused : l ≡ 4294967295 → Replied (enterReply w) (refused 10 []) w
   enter-refused h = replied _ _ (enter-last h)
 
   enter-reply : l < 4294967295 → enterReply w ≡ record { says = done []; steps = 0; words = words (levelTo w (l + 1)) }
-  unfolding replyOf whenLevel atLevel
+  unfolding replyOf provided atLevel
   enter-reply h =
       let q : suc (storeOf w .level) ≡ l + 1 = omega arith in
       rw (lt-ltb (suc (storeOf w .level)) wordEnd (omega arith), q)
@@ -100,14 +100,14 @@ module _ (w : List ℕ) (l : ℕ) (e : l ≡ storeOf w .level) where
   entered h u su = let q = replied _ _ (enter-reply h) in (q .0, su .is ∙ q .1)
 
   exit-first : l ≡ 0 → exitReply w ≡ record { says = refused 10 []; steps = 0; words = w }
-  unfolding replyOf whenLevel
+  unfolding replyOf provided
   exit-first h = let z : storeOf w .level ≡ 0 = omega arith in rw z
 
   pub exit-refused : l ≡ 0 → Replied (exitReply w) (refused 10 []) w
   exit-refused h = replied _ _ (exit-first h)
 
   exit-reply : 0 < l → exitReply w ≡ record { says = done []; steps = 0; words = words (levelTo w (l - 1)) }
-  unfolding replyOf whenLevel atLevel
+  unfolding replyOf provided atLevel
   exit-reply h =
       let z : eqb (storeOf w .level) 0 ≡ false = ne-eqb (storeOf w .level) 0 (λ q. omega arith) in
       rw (z, ← e)
