@@ -16,9 +16,9 @@ use Rattle.model.specs.Calls.{emptyTable, opened}
 use Rattle.model.specs.declared.Failure.{Failure}
 use Rattle.laws.proofs.Stores.{by-test}
 use Rattle.laws.proofs.Refused.{record-spares}
-use Rattle.started.specs.Started.{modelCalls, Once, no-more, once-more, Ours}
-use Rattle.started.proofs.Events.{changed-spares}
-use Rattle.started.proofs.Started.{ours-past}
+use Rattle.demands.specs.Started.{modelCalls, Once, no-more, once-more, Ours}
+use Rattle.demands.proofs.Events.{changed-spares}
+use Rattle.demands.proofs.Started.{ours-past}
 
 -- the pair is passed over, or recorded last
 abbrev Recorded : Store → Pair → Store → Type 0

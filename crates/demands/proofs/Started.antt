@@ -35,8 +35,8 @@ use Rattle.laws.proofs.Calls.{turn-sound, read-back, call-formed, start-formed}
 use Rattle.laws.proofs.Refused.{plainly, by-call}
 use Rattle.laws.proofs.Runs.{formed-back}
 use Rattle.laws.proofs.Breaks.{break-kind, held-refused, ask-refused-broken, held-as-plain}
-use Rattle.started.specs.Started.{modelCalls, StorePast, Ours, started, called, failureIn, firstTold, breakBy}
-use Rattle.started.proofs.Events.{past-break}
+use Rattle.demands.specs.Started.{modelCalls, StorePast, Ours, started, called, failureIn, firstTold, breakBy}
+use Rattle.demands.proofs.Events.{past-break}
 
 -- what is told is a failure only where work fails
 told-again : (f : Failure) → failureIn (toldFailure f) ≡ some f

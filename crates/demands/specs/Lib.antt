@@ -1,1 +1,2 @@
 pub mod Started
+pub mod Meets

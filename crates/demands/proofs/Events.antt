@@ -18,7 +18,7 @@ use Rattle.laws.specs.Refusals.{isWork, breakAfter}
 use Rattle.laws.proofs.Tests.{true-of}
 use Rattle.laws.proofs.Refused.{record-spares, plainly, by-call}
 use Rattle.laws.proofs.Breaks.{goes-break, fails-break, break-kind}
-use Rattle.started.specs.Started.{Changed, modelCalls, StorePast, breakBy}
+use Rattle.demands.specs.Started.{Changed, modelCalls, StorePast, breakBy}
 
 -- a failure's break is one, so that a later failure does not fill it
 after-first : (o : Option Failure) (g : Failure) (s : Store) → s .broken ≡ breakBy o → breakAfter g s ≡ breakBy (firstOf o (some g))

@@ -1,0 +1,6 @@
+pub mod Events
+pub mod Started
+pub mod Visited
+pub mod Demand1
+pub mod Demand3
+pub mod Demand2

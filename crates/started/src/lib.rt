@@ -1,1 +1,0 @@
-// Tables started by us: their histories, definitions and laws alone, no code.
