@@ -17,12 +17,12 @@ extern char *stack_entered;
 /* Runs a function on the stack that ends at top. */
 void stack_switch(void *top, void (*function)(void));
 
-enum { SPREAD_MOST = 1024, DEEP = 3200, WIDE = 4096, NAME_BYTES = 15, STEPS = 5000, STACK = 1 << 20, PAGE = 1 << 16, PAINT = 0xa5 };
+enum { SPREAD_MOST = 1024, DEEP = 1600, WIDE = 4096, NAME_BYTES = 15, STEPS = 5000, STACK = 1 << 20, PAGE = 1 << 16, PAINT = 0xa5 };
 enum { LIST_BYTES = 2 + 2 * (WIDE + 1) + NAME_BYTES * WIDE };
-enum { BOUNDS = 128, VISITED = 4096, PENDING = WIDE + 16, EQUALS = 4 };
+enum { BOUNDS = 128, VISITED = 2048, PENDING = 1024, EQUALS = 4 };
 
 /* What the calls are given, and what the last one answered. */
-static uint32_t image[SHEAFWINCH_WORDS(DEEP, 2 * WIDE, BOUNDS, VISITED, PENDING, EQUALS)];
+static uint32_t image[SHEAFWINCH_WORDS(2 * DEEP, 2 * WIDE, BOUNDS, VISITED, PENDING + WIDE, EQUALS)];
 static size_t words;
 static uint32_t a, b, fields[3 * WIDE];
 static uint8_t list[LIST_BYTES];
@@ -81,8 +81,9 @@ static uint32_t done(sheafwinch_answer got)
 
 static void size(uint32_t entries, uint32_t field_records, uint32_t visited)
 {
-    room = (sheafwinch_capacities){entries, field_records, BOUNDS, visited, PENDING, EQUALS};
-    words = SHEAFWINCH_WORDS(entries, field_records, BOUNDS, visited, PENDING, EQUALS);
+    uint32_t pending = PENDING + field_records / 2;
+    room = (sheafwinch_capacities){entries, field_records, BOUNDS, visited, pending, EQUALS};
+    words = SHEAFWINCH_WORDS(entries, field_records, BOUNDS, visited, pending, EQUALS);
 }
 
 static void table(uint32_t entries, uint32_t field_records, uint32_t visited)
@@ -100,11 +101,17 @@ static uint32_t inter(uint32_t x, uint32_t y) { return done(sheafwinch_make_inte
 static uint32_t unite(uint32_t x, uint32_t y) { return done(sheafwinch_make_union(image, words, x, y)); }
 static void ask(uint32_t sub, uint32_t sup) { done(sheafwinch_ask(image, words, 1, sub, sup)); }
 
-/* A closed attrset with the fields of names from to to-1, all of type x, and without a dynamic type or with x for it. */
-static uint32_t attrset(uint32_t from, uint32_t to, uint32_t x, uint32_t has_dynamic)
+/* Fields of the names from `from` to `to` - 1, all of type x. */
+static void list_fields(uint32_t from, uint32_t to, uint32_t x)
 {
     for (uint32_t i = from; i < to; i++)
         memcpy(fields + 3 * (i - from), (uint32_t[]){i, x, 0}, 3 * sizeof *fields);
+}
+
+/* A closed attrset with these fields, without a dynamic type or with x for it. */
+static uint32_t attrset(uint32_t from, uint32_t to, uint32_t x, uint32_t has_dynamic)
+{
+    list_fields(from, to, x);
     return done(sheafwinch_make_attrset(image, words, fields, 3 * (to - from), 0, has_dynamic, x));
 }
 
@@ -139,12 +146,12 @@ static void no_table(const char *pattern)
 /* A variable, a string, and a chain; a level entered, a negation cached. */
 static void deep(const char *pattern)
 {
-    table(DEEP, 2 * WIDE, VISITED);
+    table(DEEP, WIDE, VISITED);
     a = variable();
     b = string();
     neg(b);
-    attrset(0, WIDE, b, 1);
     chain(pattern, a, b, SPREAD_MOST);
+    list_fields(0, WIDE, b);
     done(sheafwinch_enter(image, words));
 }
 
@@ -230,7 +237,7 @@ static void member_found(const char *pattern)
  * there is room or none for the visited pair; a member is disjoint. */
 static void other_too_deep(const char *pattern)
 {
-    table(DEEP, 2 * WIDE, VISITED);
+    table(DEEP, 256, VISITED);
     uint32_t s = string(), x = attrset(0, 64, s, 1);
     ask(inter(variable(), chain(pattern, x, attrset(0, 64, s, 1), SPREAD_MOST - 2)), attrset(0, 64, s, 1));
 }
@@ -254,7 +261,7 @@ static void other_undone(const char *pattern) { other_of(pattern, 0); }
 
 static void other_disjoint(const char *pattern)
 {
-    table(DEEP, 2 * WIDE, VISITED);
+    table(DEEP, 256, VISITED);
     uint32_t s = string(), x = attrset(0, 64, s, 1);
     ask(inter(variable(), chain(pattern, x, attrset(0, 32, s, 1), SPREAD_MOST - 2)), s);
 }
@@ -262,7 +269,7 @@ static void other_disjoint(const char *pattern)
 /* A chain under a chain, an attrset under one, a union of attrsets, a lambda, or a variable that has bounds. */
 static void both_deep(const char *pattern)
 {
-    table(DEEP, 0, VISITED);
+    table(2 * DEEP, 0, VISITED);
     uint32_t s = string(), t = string();
     ask(chain(pattern, s, t, SPREAD_MOST), chain(pattern, t, s, SPREAD_MOST));
 }
