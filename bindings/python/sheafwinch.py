@@ -19,7 +19,8 @@ from enum import IntEnum
 from typing import Iterable, Optional, Union as Either
 
 
-# Bytes of stack that a thread should have free when it calls: SHEAFWINCH_STACK of the header, which says how it was found. Measured, not proved.
+# Bytes of stack that a thread should have free when it calls: SHEAFWINCH_STACK of the header, which says how it was found.
+# Measured, not proved.
 STACK_BYTES = 131072
 
 
