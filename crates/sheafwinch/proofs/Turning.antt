@@ -5,7 +5,7 @@ use native.Mathlib.Omega.{arith}
 use native.Mathlib.Decide.{decLt}
 use mathlib.Core.Path.{_≡_, refl, sym, ap, _∙_}
 use mathlib.Core.List.{List, []}
-use mathlib.Core.Bool.{Bool, true, false, _&&_, and-false}
+use mathlib.Core.Bool.{Bool, true, false, not, _&&_, and-false}
 use lib.ListN.{length, getD, take, drop, length-drop}
 use lib.Seq.{drop-drop}
 use lib.Dec.{T, leb, ltb}
@@ -14,11 +14,13 @@ use Rattle.model.specs.Format.{variable, upper, isRegion}
 use Rattle.model.specs.Table.{Entry, Table, isAsked, entryAt, is, isAt}
 use Rattle.model.specs.Image.{words, table, offset, count, recordsOf}
 use Rattle.model.specs.Formed.{wellFormed, isEntry}
-use Rattle.model.specs.Calls.{Reply, Turn, refuse, leave, replyOf, onTable, whenIdle, whenNumbered, whenListed, whenVariable, Call, turnOf, perform}
+use Rattle.model.specs.Calls.{Reply, Turn, refuse, leave, replyOf, admission, provided, whenIdle, Call, turnOf, perform}
 use Rattle.model.specs.Told.{Told, done, toldRefusal}
 use Rattle.model.specs.declared.Refusal.{Refusal}
-use Rattle.model.specs.declared.Refusal.the-variants.{BadTable, BadNumber, Busy, BadFields, NotAVariable}
-use Rattle.laws.proofs.Tests.{true-of}
+use Rattle.model.specs.declared.Refusal.the-variants.{Busy}
+use Rattle.model.specs.declared.Admission.{Admission}
+use Rattle.model.specs.declared.Admission.the-variants.{Good, Unfit}
+use Rattle.laws.proofs.Replies.{refused-by, passed-by, good-formed, perform-formed, perform-unfit}
 use Rattle.laws.proofs.Regions.{Coded}
 use Rattle.image.proofs.Reading.{read-at}
 
@@ -35,61 +37,36 @@ refused-as w r = record { says = refl; leaves = refl }
 pub as-same : {a : Told} {v : List ℕ} {r s : Reply} → r ≡ s → Replies a v r → Replies a v s
 as-same e k = record { says = k .says ∙ ap (λ (x : Reply). x .says) e; leaves = k .leaves ∙ ap (λ (x : Reply). x .words) e }
 
--- 1
-pub bad-table : (c : Call) (w : List ℕ) → wellFormed w ≡ false → Replies (toldRefusal BadTable) w (perform c w)
-unfolding perform onTable
-bad-table c w e = rw e (refused-as w BadTable)
+-- the two sides of an image's admission: x is what `formed::admit` answers
+module _ (w : List ℕ) {x : Admission} (e : x ≡ admission w) where
+  pub unfit : (c : Call) {r : Refusal} → x ≡ Unfit r → replyOf w (refuse r) ≡ perform c w
+  unfit c {r} u = sym (perform-unfit c w r (sym e ∙ u))
 
-pub good-table : (c : Call) (w : List ℕ) → T (wellFormed w) → {a : Told} {v : List ℕ} → Replies a v (replyOf w (turnOf c w (table w))) → Replies a v (perform c w)
-unfolding perform onTable
-good-table c w h k = rw (true-of (wellFormed w) h) k
+  pub good-image : x ≡ Good → T (wellFormed w)
+  good-image g = good-formed w (sym e ∙ g)
 
--- the steps that are told
-pub bad-steps : (c : Call) (w : List ℕ) → wellFormed w ≡ false → 0 ≡ perform c w .steps
-unfolding perform onTable replyOf
-bad-steps c w e = rw e
+  pub good : (c : Call) → x ≡ Good → replyOf w (turnOf c w (table w)) ≡ perform c w
+  good c g = sym (perform-formed c w (good-image g))
 
-pub good-steps : (c : Call) (w : List ℕ) → T (wellFormed w) → {k : ℕ} → k ≡ replyOf w (turnOf c w (table w)) .steps → k ≡ perform c w .steps
-unfolding perform onTable
-good-steps c w h k = rw (true-of (wellFormed w) h) k
+-- a test of a call, and what is done where it passes: refused, or gone on with
+module _ (w : List ℕ) (r : Refusal) (turn : Turn) (ok : Bool) where
+  pub stopped : ok ≡ false → Replies (toldRefusal r) w (replyOf w (provided ok r turn))
+  stopped e = as-same (ap (replyOf w) (sym (refused-by ok r turn e))) (refused-as w r)
 
-module _ (w : List ℕ) where
-  -- 3
-  pub busy : (turn : Turn) → isAsked (table w) ≡ true → Replies (toldRefusal Busy) w (replyOf w (whenIdle (table w) turn))
-  unfolding whenIdle
-  busy turn e = rw e (refused-as w Busy)
+  pub gone-on : ok ≡ true → {a : Told} {v : List ℕ} → Replies a v (replyOf w turn) → Replies a v (replyOf w (provided ok r turn))
+  gone-on e k = as-same (ap (replyOf w) (sym (passed-by ok r turn e))) k
 
-  pub idle : (turn : Turn) → isAsked (table w) ≡ false → {a : Told} {v : List ℕ} → Replies a v (replyOf w turn) → Replies a v (replyOf w (whenIdle (table w) turn))
-  unfolding whenIdle
-  idle turn e k = rw e k
+  -- a read: only what it says
+  pub read-on : ok ≡ true → {a : Told} → a ≡ replyOf w turn .says → a ≡ replyOf w (provided ok r turn) .says
+  read-on e k = k ∙ ap (λ (x : Turn). replyOf w x .says) (sym (passed-by ok r turn e))
 
-  -- 7
-  pub unlisted : (turn : Turn) (ok : Bool) → ok ≡ false → Replies (toldRefusal BadFields) w (replyOf w (whenListed ok turn))
-  unfolding whenListed
-  unlisted turn ok e = rw e (refused-as w BadFields)
+-- 3, of the calls that are no reads, work or abandon
+module _ (w : List ℕ) (turn : Turn) where
+  pub busy : isAsked (table w) ≡ true → Replies (toldRefusal Busy) w (replyOf w (whenIdle (table w) turn))
+  busy e = stopped w Busy turn (not (isAsked (table w))) (ap not e)
 
-  pub listed-as : (turn : Turn) (ok : Bool) → ok ≡ true → {a : Told} {v : List ℕ} → Replies a v (replyOf w turn) → Replies a v (replyOf w (whenListed ok turn))
-  unfolding whenListed
-  listed-as turn ok e k = rw e k
-
-  -- 2
-  pub misnumbered : (turn : Turn) (ok : Bool) → ok ≡ false → Replies (toldRefusal BadNumber) w (replyOf w (whenNumbered ok turn))
-  unfolding whenNumbered
-  misnumbered turn ok e = rw e (refused-as w BadNumber)
-
-  pub numbered : (turn : Turn) (ok : Bool) → ok ≡ true → {a : Told} {v : List ℕ} → Replies a v (replyOf w turn) → Replies a v (replyOf w (whenNumbered ok turn))
-  unfolding whenNumbered
-  numbered turn ok e k = rw e k
-
-  -- 11
-  pub not-variable : (turn : Turn) (v : ℕ) → isAt (table w .store .entries) variable v ≡ false → Replies (toldRefusal NotAVariable) w (replyOf w (whenVariable (table w) v turn))
-  unfolding whenVariable
-  not-variable turn v e = rw e (refused-as w NotAVariable)
-
-  pub is-variable : (turn : Turn) (v : ℕ) → isAt (table w .store .entries) variable v ≡ true → {a : Told} {u : List ℕ} → Replies a u (replyOf w turn)
-      → Replies a u (replyOf w (whenVariable (table w) v turn))
-  unfolding whenVariable
-  is-variable turn v e k = rw e k
+  pub idle : isAsked (table w) ≡ false → {a : Told} {v : List ℕ} → Replies a v (replyOf w turn) → Replies a v (replyOf w (whenIdle (table w) turn))
+  idle e k = gone-on w Busy turn (not (isAsked (table w))) (ap not e) k
 
 -- entry numbers
 module _ (es : List Entry) where
@@ -109,18 +86,6 @@ module _ (es : List Entry) where
 
   pub second-no-entry : (a b : ℕ) → length es ≤ b → (isEntry es a && isEntry es b) ≡ false
   second-no-entry a b h = rw (no-entry b h) (and-false (isEntry es a))
-
--- a read: only what it says
-abbrev pub Says : Told → Reply → Type 0
-Says a r = a ≡ r .says
-
-pub good-says : (c : Call) (w : List ℕ) → T (wellFormed w) → {a : Told} → Says a (replyOf w (turnOf c w (table w))) → Says a (perform c w)
-unfolding perform onTable
-good-says c w h k = rw (true-of (wellFormed w) h) k
-
-pub numbered-says : (w : List ℕ) (turn : Turn) (ok : Bool) → ok ≡ true → {a : Told} → Says a (replyOf w turn) → Says a (replyOf w (whenNumbered ok turn))
-unfolding whenNumbered
-numbered-says w turn ok e k = rw e k
 
 -- what is done leaves the words of a table
 pub left-as : (w v : List ℕ) (t : Table) → v ≡ words t → Replies (done []) v (replyOf w (leave (done []) 0 t))

@@ -1,5 +1,6 @@
 // The calls on an image. Each tests the image first, refuses in document 01's order, and leaves every word as found where it refuses;
 // its contract is the model's definition of that call: `perform` in crates/model/specs/Calls.antt.
+use model::Admission;
 use model::Answer;
 use model::Disjointness;
 use model::Dynamic;
@@ -35,10 +36,10 @@ pub fn make_variable(image: &mut [u32]) -> Made
     ensures { λ r. ⌜ toldMade r ≡ perform makesVariable (now (image .entry)) .says ⌝ }
     ensures { λ _. ⌜ now (image .exit) ≡ perform makesVariable (now (image .entry)) .words ⌝ }
 {
-    if !formed::check(image) {
-        return Made::Refused(Refusal::BadTable);
+    match formed::admit(image) {
+        Admission::Unfit(r) => Made::Refused(r),
+        Admission::Good => variable_in(image),
     }
-    variable_in(image)
 }
 
 // The same in a well formed image, as all that end in `_in`.
@@ -59,10 +60,10 @@ pub fn make_primitive(image: &mut [u32], which: u32) -> Made
     ensures { λ r. ⌜ toldMade r ≡ perform (makesPrimitive which) (now (image .entry)) .says ⌝ }
     ensures { λ _. ⌜ now (image .exit) ≡ perform (makesPrimitive which) (now (image .entry)) .words ⌝ }
 {
-    if !formed::check(image) {
-        return Made::Refused(Refusal::BadTable);
+    match formed::admit(image) {
+        Admission::Unfit(r) => Made::Refused(r),
+        Admission::Good => primitive_in(image, which),
     }
-    primitive_in(image, which)
 }
 
 // A primitive.
@@ -85,10 +86,10 @@ pub fn make_list(image: &mut [u32], element: u32) -> Made
     ensures { λ r. ⌜ toldMade r ≡ perform (makesList element) (now (image .entry)) .says ⌝ }
     ensures { λ _. ⌜ now (image .exit) ≡ perform (makesList element) (now (image .entry)) .words ⌝ }
 {
-    if !formed::check(image) {
-        return Made::Refused(Refusal::BadTable);
+    match formed::admit(image) {
+        Admission::Unfit(r) => Made::Refused(r),
+        Admission::Good => one_in(image, image::LIST, element, 0),
     }
-    one_in(image, image::LIST, element, 0)
 }
 
 // Makes a named entry; the label is never tested.
@@ -96,10 +97,10 @@ pub fn make_named(image: &mut [u32], inner: u32, label: u32) -> Made
     ensures { λ r. ⌜ toldMade r ≡ perform (makesNamed inner label) (now (image .entry)) .says ⌝ }
     ensures { λ _. ⌜ now (image .exit) ≡ perform (makesNamed inner label) (now (image .entry)) .words ⌝ }
 {
-    if !formed::check(image) {
-        return Made::Refused(Refusal::BadTable);
+    match formed::admit(image) {
+        Admission::Unfit(r) => Made::Refused(r),
+        Admission::Good => one_in(image, image::NAMED, inner, label),
     }
-    one_in(image, image::NAMED, inner, label)
 }
 
 // An entry of one component, and a word that is none.
@@ -123,10 +124,10 @@ pub fn make_lambda(image: &mut [u32], param: u32, body: u32) -> Made
     ensures { λ r. ⌜ toldMade r ≡ perform (makesLambda param body) (now (image .entry)) .says ⌝ }
     ensures { λ _. ⌜ now (image .exit) ≡ perform (makesLambda param body) (now (image .entry)) .words ⌝ }
 {
-    if !formed::check(image) {
-        return Made::Refused(Refusal::BadTable);
+    match formed::admit(image) {
+        Admission::Unfit(r) => Made::Refused(r),
+        Admission::Good => two_in(image, image::LAMBDA, param, body),
     }
-    two_in(image, image::LAMBDA, param, body)
 }
 
 // Makes an intersection.
@@ -134,10 +135,10 @@ pub fn make_inter(image: &mut [u32], left: u32, right: u32) -> Made
     ensures { λ r. ⌜ toldMade r ≡ perform (makesInter left right) (now (image .entry)) .says ⌝ }
     ensures { λ _. ⌜ now (image .exit) ≡ perform (makesInter left right) (now (image .entry)) .words ⌝ }
 {
-    if !formed::check(image) {
-        return Made::Refused(Refusal::BadTable);
+    match formed::admit(image) {
+        Admission::Unfit(r) => Made::Refused(r),
+        Admission::Good => two_in(image, image::INTER, left, right),
     }
-    two_in(image, image::INTER, left, right)
 }
 
 // Makes a union.
@@ -145,10 +146,10 @@ pub fn make_union(image: &mut [u32], left: u32, right: u32) -> Made
     ensures { λ r. ⌜ toldMade r ≡ perform (makesUnion left right) (now (image .entry)) .says ⌝ }
     ensures { λ _. ⌜ now (image .exit) ≡ perform (makesUnion left right) (now (image .entry)) .words ⌝ }
 {
-    if !formed::check(image) {
-        return Made::Refused(Refusal::BadTable);
+    match formed::admit(image) {
+        Admission::Unfit(r) => Made::Refused(r),
+        Admission::Good => two_in(image, image::UNION, left, right),
     }
-    two_in(image, image::UNION, left, right)
 }
 
 // An entry of two components.
@@ -174,10 +175,10 @@ pub fn make_neg(image: &mut [u32], n: u32) -> Made
     ensures { λ r. ⌜ toldMade r ≡ perform (makesNeg n) (now (image .entry)) .says ⌝ }
     ensures { λ _. ⌜ now (image .exit) ≡ perform (makesNeg n) (now (image .entry)) .words ⌝ }
 {
-    if !formed::check(image) {
-        return Made::Refused(Refusal::BadTable);
+    match formed::admit(image) {
+        Admission::Unfit(r) => Made::Refused(r),
+        Admission::Good => neg_in(image, n),
     }
-    neg_in(image, n)
 }
 
 // A negation.
@@ -200,10 +201,10 @@ pub fn make_attrset(image: &mut [u32], fields: &[u32], is_open: bool, dynamic: D
     ensures { λ r. ⌜ toldMade r ≡ perform (makesAttrset (now (fields .entry)) is_open dynamic) (now (image .entry)) .says ⌝ }
     ensures { λ _. ⌜ now (image .exit) ≡ perform (makesAttrset (now (fields .entry)) is_open dynamic) (now (image .entry)) .words ⌝ }
 {
-    if !formed::check(image) {
-        return Made::Refused(Refusal::BadTable);
+    match formed::admit(image) {
+        Admission::Unfit(r) => Made::Refused(r),
+        Admission::Good => attrset_in(image, fields, is_open, dynamic),
     }
-    attrset_in(image, fields, is_open, dynamic)
 }
 
 // Whether a dynamic type, where there is one, is an entry.
@@ -243,10 +244,10 @@ pub fn mark(image: &mut [u32], n: u32) -> Reply
     ensures { λ r. ⌜ toldReply r ≡ perform (marks n) (now (image .entry)) .says ⌝ }
     ensures { λ _. ⌜ now (image .exit) ≡ perform (marks n) (now (image .entry)) .words ⌝ }
 {
-    if !formed::check(image) {
-        return Reply::Refused(Refusal::BadTable);
+    match formed::admit(image) {
+        Admission::Unfit(r) => Reply::Refused(r),
+        Admission::Good => mark_in(image, n),
     }
-    mark_in(image, n)
 }
 
 // A mark.
@@ -270,10 +271,10 @@ pub fn put_bound(image: &mut [u32], variable: u32, side: u32, bound: u32) -> Rep
     ensures { λ r. ⌜ toldReply r ≡ perform (putsBound variable side bound) (now (image .entry)) .says ⌝ }
     ensures { λ _. ⌜ now (image .exit) ≡ perform (putsBound variable side bound) (now (image .entry)) .words ⌝ }
 {
-    if !formed::check(image) {
-        return Reply::Refused(Refusal::BadTable);
+    match formed::admit(image) {
+        Admission::Unfit(r) => Reply::Refused(r),
+        Admission::Good => bound_in(image, variable, side, bound),
     }
-    bound_in(image, variable, side, bound)
 }
 
 // A bound.
@@ -305,10 +306,10 @@ pub fn enter(image: &mut [u32]) -> Reply
     ensures { λ r. ⌜ toldReply r ≡ perform enters (now (image .entry)) .says ⌝ }
     ensures { λ _. ⌜ now (image .exit) ≡ perform enters (now (image .entry)) .words ⌝ }
 {
-    if !formed::check(image) {
-        return Reply::Refused(Refusal::BadTable);
+    match formed::admit(image) {
+        Admission::Unfit(r) => Reply::Refused(r),
+        Admission::Good => enter_in(image),
     }
-    enter_in(image)
 }
 
 // The level above.
@@ -328,10 +329,10 @@ pub fn exit(image: &mut [u32]) -> Reply
     ensures { λ r. ⌜ toldReply r ≡ perform exits (now (image .entry)) .says ⌝ }
     ensures { λ _. ⌜ now (image .exit) ≡ perform exits (now (image .entry)) .words ⌝ }
 {
-    if !formed::check(image) {
-        return Reply::Refused(Refusal::BadTable);
+    match formed::admit(image) {
+        Admission::Unfit(r) => Reply::Refused(r),
+        Admission::Good => exit_in(image),
     }
-    exit_in(image)
 }
 
 // The level below.
@@ -351,10 +352,10 @@ pub fn set_level(image: &mut [u32], variable: u32, level: u32) -> Reply
     ensures { λ r. ⌜ toldReply r ≡ perform (setsLevel variable level) (now (image .entry)) .says ⌝ }
     ensures { λ _. ⌜ now (image .exit) ≡ perform (setsLevel variable level) (now (image .entry)) .words ⌝ }
 {
-    if !formed::check(image) {
-        return Reply::Refused(Refusal::BadTable);
+    match formed::admit(image) {
+        Admission::Unfit(r) => Reply::Refused(r),
+        Admission::Good => level_in(image, variable, level),
     }
-    level_in(image, variable, level)
 }
 
 // A variable's level.
@@ -409,10 +410,10 @@ fn asked(image: &mut [u32], q: Question) -> Reply
     ensures { λ r. ⌜ toldReply r ≡ perform (asks q) (now (image .entry)) .says ⌝ }
     ensures { λ _. ⌜ now (image .exit) ≡ perform (asks q) (now (image .entry)) .words ⌝ }
 {
-    if !formed::check(image) {
-        return Reply::Refused(Refusal::BadTable);
+    match formed::admit(image) {
+        Admission::Unfit(r) => Reply::Refused(r),
+        Admission::Good => questions::ask(image, q),
     }
-    questions::ask(image, q)
 }
 
 // Works the question that is asked, at most so many steps; tells the answer, and the steps of this call.
@@ -421,13 +422,13 @@ pub fn work(image: &mut [u32], budget: u32) -> Instalment
     ensures { λ r. ⌜ r .steps ≡ perform (works budget) (now (image .entry)) .steps ⌝ }
     ensures { λ _. ⌜ now (image .exit) ≡ perform (works budget) (now (image .entry)) .words ⌝ }
 {
-    if !formed::check(image) {
-        return Instalment {
-            answer: Answer::Refused(Refusal::BadTable),
+    match formed::admit(image) {
+        Admission::Unfit(r) => Instalment {
+            answer: Answer::Refused(r),
             steps: 0,
-        };
+        },
+        Admission::Good => questions::work(image, budget),
     }
-    questions::work(image, budget)
 }
 
 // Gives up the question that is asked.
@@ -435,20 +436,20 @@ pub fn abandon(image: &mut [u32]) -> Reply
     ensures { λ r. ⌜ toldReply r ≡ perform abandons (now (image .entry)) .says ⌝ }
     ensures { λ _. ⌜ now (image .exit) ≡ perform abandons (now (image .entry)) .words ⌝ }
 {
-    if !formed::check(image) {
-        return Reply::Refused(Refusal::BadTable);
+    match formed::admit(image) {
+        Admission::Unfit(r) => Reply::Refused(r),
+        Admission::Good => questions::abandon(image),
     }
-    questions::abandon(image)
 }
 
 // Reads an entry out.
 pub fn entry(image: &[u32], n: u32) -> EntryRead
     ensures { λ r. ⌜ toldEntryRead r ≡ perform (readsEntry n) (now (image .entry)) .says ⌝ }
 {
-    if !formed::check(image) {
-        return EntryRead::Refused(Refusal::BadTable);
+    match formed::admit(image) {
+        Admission::Unfit(r) => EntryRead::Refused(r),
+        Admission::Good => entry_in(image, n),
     }
-    entry_in(image, n)
 }
 
 // An entry.
@@ -466,10 +467,10 @@ fn entry_in(image: &[u32], n: u32) -> EntryRead
 pub fn record(image: &[u32], region: u32, n: u32) -> Record
     ensures { λ r. ⌜ toldRecord r ≡ perform (readsRecord region n) (now (image .entry)) .says ⌝ }
 {
-    if !formed::check(image) {
-        return Record::Refused(Refusal::BadTable);
+    match formed::admit(image) {
+        Admission::Unfit(r) => Record::Refused(r),
+        Admission::Good => record_in(image, region, n),
     }
-    record_in(image, region, n)
 }
 
 // A region's record.
@@ -602,10 +603,10 @@ fn equal_record(image: &[u32], n: u32) -> Record
 pub fn disjoint(image: &[u32], left: u32, right: u32) -> Disjointness
     ensures { λ r. ⌜ toldDisjointness r ≡ perform (readsDisjoint left right) (now (image .entry)) .says ⌝ }
 {
-    if !formed::check(image) {
-        return Disjointness::Refused(Refusal::BadTable);
+    match formed::admit(image) {
+        Admission::Unfit(r) => Disjointness::Refused(r),
+        Admission::Good => disjoint_in(image, left, right),
     }
-    disjoint_in(image, left, right)
 }
 
 // Disjointness.

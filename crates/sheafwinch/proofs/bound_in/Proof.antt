@@ -2,11 +2,14 @@
 use native.Mathlib.Omega.{arith}
 use mathlib.Core.Path.{sym, _∙_}
 use denote.Ref.{now}
+use Rattle.model.specs.Format.{variable}
+use Rattle.model.specs.Table.{isAt}
 use borrow.Author.Needs.{needs}
 use Rattle.model.specs.Calls.{putBoundTurn}
 use Rattle.image.specs.Shown.{entriesOf}
 use Rattle.image.proofs.Laying.{formed-laid, formed-shown}
-use Rattle.sheafwinch.proofs.Turning.{busy, idle, misnumbered, numbered, not-variable, is-variable, boundNumbered, bound-numbered, no-bounded, no-side, no-bound, kind-variable, kind-other}
+use Rattle.model.specs.declared.Refusal.the-variants.{BadNumber, NotAVariable}
+use Rattle.sheafwinch.proofs.Turning.{busy, idle, stopped, gone-on, boundNumbered, bound-numbered, no-bounded, no-side, no-bound, kind-variable, kind-other}
 use Rattle.sheafwinch.proofs.bound_in.Statement.{statement}
 use Rattle.sheafwinch.proofs.bound_in.Tie as tie
 
@@ -38,7 +41,7 @@ unfolding putBoundTurn
 returns-2 c =
     let s = c .before .before .before .before .before .before .before in
     let w = now (s .args .image) in
-    let k = idle w _ (sym (c .before .before .before .before .is-asked .ensures) ∙ c .before .before .before .if1 .left) (misnumbered w _ (boundNumbered (entriesOf w) (s .args .v) (s .args .side) (s .args .b)) (no-bounded (entriesOf w) (s .args .v) (s .args .side) (s .args .b) (omega (arith, c .before .entries-count .ensures)))) in
+    let k = idle w _ (sym (c .before .before .before .before .is-asked .ensures) ∙ c .before .before .before .if1 .left) (stopped w BadNumber _ (boundNumbered (entriesOf w) (s .args .v) (s .args .side) (s .args .b)) (no-bounded (entriesOf w) (s .args .v) (s .args .side) (s .args .b) (omega (arith, c .before .entries-count .ensures)))) in
     (k .says, k .leaves)
 
 same-length-3 : tie.Need-same-length-3
@@ -50,7 +53,7 @@ unfolding putBoundTurn
 returns-3 c =
     let s = c .before .before .before .before .before .before .before .before in
     let w = now (s .args .image) in
-    let k = idle w _ (sym (c .before .before .before .before .before .is-asked .ensures) ∙ c .before .before .before .before .if1 .left) (misnumbered w _ (boundNumbered (entriesOf w) (s .args .v) (s .args .side) (s .args .b)) (no-side (entriesOf w) (s .args .v) (s .args .side) (s .args .b) (omega arith))) in
+    let k = idle w _ (sym (c .before .before .before .before .before .is-asked .ensures) ∙ c .before .before .before .before .if1 .left) (stopped w BadNumber _ (boundNumbered (entriesOf w) (s .args .v) (s .args .side) (s .args .b)) (no-side (entriesOf w) (s .args .v) (s .args .side) (s .args .b) (omega arith))) in
     (k .says, k .leaves)
 
 entries-count-requires-2 : tie.Need-entries-count-requires-2
@@ -66,7 +69,7 @@ unfolding putBoundTurn
 returns-4 c =
     let s = c .before .before .before .before .before .before .before .before .before .before .before in
     let w = now (s .args .image) in
-    let k = idle w _ (sym (c .before .before .before .before .before .before .before .before .is-asked .ensures) ∙ c .before .before .before .before .before .before .before .if1 .left) (misnumbered w _ (boundNumbered (entriesOf w) (s .args .v) (s .args .side) (s .args .b)) (no-bound (entriesOf w) (s .args .v) (s .args .side) (s .args .b) (omega (arith, c .before .entries-count2 .ensures)))) in
+    let k = idle w _ (sym (c .before .before .before .before .before .before .before .before .is-asked .ensures) ∙ c .before .before .before .before .before .before .before .if1 .left) (stopped w BadNumber _ (boundNumbered (entriesOf w) (s .args .v) (s .args .side) (s .args .b)) (no-bound (entriesOf w) (s .args .v) (s .args .side) (s .args .b) (omega (arith, c .before .entries-count2 .ensures)))) in
     (k .says, k .leaves)
 
 entry-word-requires : tie.Need-entry-word-requires
@@ -84,8 +87,8 @@ returns-5 c =
     let s = c .before .before .before .before .before .before .before .before .before .before .before .before .before .before in
     let w = now (s .args .image) in
     let k = idle w _ (sym (c .before .before .before .before .before .before .before .before .before .before .before .is-asked .ensures) ∙ c .before .before .before .before .before .before .before .before .before .before .if1 .left)
-    (numbered w _ (boundNumbered (entriesOf w) (s .args .v) (s .args .side) (s .args .b)) (bound-numbered (entriesOf w) (s .args .v) (s .args .side) (s .args .b) (omega (arith, c .before .before .before .before .before .before .before .before .entries-count .ensures)) (omega arith) (omega (arith, c .before .before .before .before .entries-count2 .ensures)))
-    (not-variable w _ (s .args .v) (kind-other (entriesOf w) (s .args .v) (s .args .side) (s .args .b) (λ e. c .if5 .taken (c .before .entry-word .ensures ∙ e))))) in
+    (gone-on w BadNumber _ (boundNumbered (entriesOf w) (s .args .v) (s .args .side) (s .args .b)) (bound-numbered (entriesOf w) (s .args .v) (s .args .side) (s .args .b) (omega (arith, c .before .before .before .before .before .before .before .before .entries-count .ensures)) (omega arith) (omega (arith, c .before .before .before .before .entries-count2 .ensures)))
+    (stopped w NotAVariable _ (isAt (entriesOf w) variable (s .args .v)) (kind-other (entriesOf w) (s .args .v) (s .args .side) (s .args .b) (λ e. c .if5 .taken (c .before .entry-word .ensures ∙ e))))) in
     (k .says, k .leaves)
 
 put-bound-requires : tie.Need-put-bound-requires
@@ -102,8 +105,8 @@ returns-6 c =
     let s = c .before .before .before .before .before .before .before .before .before .before .before .before .before .before .before .before .before .before in
     let w = now (s .args .image) in
     let k = idle w _ (sym (c .before .before .before .before .before .before .before .before .before .before .before .before .before .before .before .is-asked .ensures) ∙ c .before .before .before .before .before .before .before .before .before .before .before .before .before .before .if1 .left)
-    (numbered w _ (boundNumbered (entriesOf w) (s .args .v) (s .args .side) (s .args .b)) (bound-numbered (entriesOf w) (s .args .v) (s .args .side) (s .args .b) (omega (arith, c .before .before .before .before .before .before .before .before .before .before .before .before .entries-count .ensures)) (omega arith) (omega (arith, c .before .before .before .before .before .before .before .before .entries-count2 .ensures)))
-    (is-variable w _ (s .args .v) (kind-variable (entriesOf w) (s .args .v) (s .args .side) (s .args .b) (sym (c .before .before .before .before .before .entry-word .ensures) ∙ c .before .before .before .before .if5 .left))
+    (gone-on w BadNumber _ (boundNumbered (entriesOf w) (s .args .v) (s .args .side) (s .args .b)) (bound-numbered (entriesOf w) (s .args .v) (s .args .side) (s .args .b) (omega (arith, c .before .before .before .before .before .before .before .before .before .before .before .before .entries-count .ensures)) (omega arith) (omega (arith, c .before .before .before .before .before .before .before .before .entries-count2 .ensures)))
+    (gone-on w NotAVariable _ (isAt (entriesOf w) variable (s .args .v)) (kind-variable (entriesOf w) (s .args .v) (s .args .side) (s .args .b) (sym (c .before .before .before .before .before .entry-word .ensures) ∙ c .before .before .before .before .if5 .left))
     (record { says = c .before .before .put-bound .ensures .0; leaves = c .before .before .put-bound .ensures .1 }))) in
     (k .says, k .leaves)
 

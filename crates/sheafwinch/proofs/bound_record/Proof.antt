@@ -14,7 +14,8 @@ use Rattle.model.specs.Told.{done}
 use Rattle.laws.proofs.Regions.{bound-coded}
 use Rattle.image.proofs.Laying.{formed-laid}
 use Rattle.image.proofs.Reading.{bounds-count as bounds-are}
-use Rattle.sheafwinch.proofs.Turning.{misnumbered, numbered-says, no-record, a-record, record-words}
+use Rattle.model.specs.declared.Refusal.the-variants.{BadNumber}
+use Rattle.sheafwinch.proofs.Turning.{stopped, read-on, no-record, a-record, record-words}
 use Rattle.sheafwinch.proofs.bound_record.Statement.{statement}
 use Rattle.sheafwinch.proofs.bound_record.Tie as tie
 
@@ -27,7 +28,7 @@ unfolding readRecordTurn
 returns c =
     let s = c .before .before .before in
     let w = now (s .args .image) in
-    misnumbered w _ (isRegion 3 && ltb (s .args .n) (count w 3)) (no-record w 3 (s .args .n) (omega (arith, c .before .bounds-count .ensures, bounds-are w))) .says
+    stopped w BadNumber _ (isRegion 3 && ltb (s .args .n) (count w 3)) (no-record w 3 (s .args .n) (omega (arith, c .before .bounds-count .ensures, bounds-are w))) .says
 
 bound-word-requires : tie.Need-bound-word-requires
 bound-word-requires c κs =
@@ -52,7 +53,7 @@ returns-2 c =
     let n = s .args .n in
     let l = formed-laid w (s .pre) in
     let lt : n < count w 3 = omega (arith, c .before .before .before .before .bounds-count .ensures, bounds-are w) in
-    numbered-says w _ (isRegion 3 && ltb n (count w 3)) (a-record w 3 n refl lt)
+    read-on w BadNumber _ (isRegion 3 && ltb n (count w 3)) (a-record w 3 n refl lt)
     (rw (c .before .before .bound-word .ensures, c .before .bound-word2 .ensures, c .bound-word3 .ensures) (ap (λ (x : List ℕ). done (3 ∷ x)) (record-words bound-coded w 3 n _ lt (omega arith))))
 
 pub bound-record-spec : {M : Type 1} → statement M

@@ -1,18 +1,18 @@
 -- `disjoint_in`: tells whether two entries share no value, in a well formed image.
 use native.Mathlib.Omega.{arith}
-use mathlib.Core.Path.{_≡_, refl, sym, ap, _∙_}
-use mathlib.Core.Bool.{Bool, true, false, cond, _&&_}
+use mathlib.Core.Path.{_≡_, sym, _∙_}
+use mathlib.Core.Bool.{true, false, _&&_}
 use denote.Ref.{now}
 use Rattle.model.specs.Table.{entryAt}
 use Rattle.model.specs.Formed.{isEntry}
 use Rattle.model.specs.Shapes as shapes
 use Rattle.model.specs.Calls.{readDisjointTurn, replyOf}
-use Rattle.model.specs.Told.{toldDisjointness}
 use Rattle.model.specs.declared.Disjointness.the-variants as J
 use Rattle.image.specs.Shown.{graphIn, entriesOf}
 use Rattle.image.proofs.Laying.{formed-laid}
 use Rattle.laws.proofs.Formed.{sound-table}
-use Rattle.sheafwinch.proofs.Turning.{misnumbered, numbered-says, two-entries, first-no-entry, second-no-entry}
+use Rattle.model.specs.declared.Refusal.the-variants.{BadNumber}
+use Rattle.sheafwinch.proofs.Turning.{stopped, read-on, two-entries, first-no-entry, second-no-entry}
 use Rattle.sheafwinch.proofs.disjoint_in.Statement.{statement}
 use Rattle.sheafwinch.proofs.disjoint_in.Tie as tie
 use Rattle.sheafwinch.proofs.disjoint_in.Reads as reads
@@ -30,7 +30,7 @@ unfolding readDisjointTurn
 returns c =
     let s = c .before .before .before in
     let w = now (s .args .image) in
-    misnumbered w _ (isEntry (entriesOf w) (s .args .a) && isEntry (entriesOf w) (s .args .b)) (first-no-entry (entriesOf w) (s .args .a) (s .args .b) (omega (arith, c .before .entries-count .ensures))) .says
+    stopped w BadNumber _ (isEntry (entriesOf w) (s .args .a) && isEntry (entriesOf w) (s .args .b)) (first-no-entry (entriesOf w) (s .args .a) (s .args .b) (omega (arith, c .before .entries-count .ensures))) .says
 
 -- src/lib.rt:52:8
 entries-count-requires-2 : tie.Need-entries-count-requires-2
@@ -42,7 +42,7 @@ unfolding readDisjointTurn
 returns-2 c =
     let s = c .before .before .before .before .before in
     let w = now (s .args .image) in
-    misnumbered w _ (isEntry (entriesOf w) (s .args .a) && isEntry (entriesOf w) (s .args .b)) (second-no-entry (entriesOf w) (s .args .a) (s .args .b) (omega (arith, c .before .entries-count2 .ensures))) .says
+    stopped w BadNumber _ (isEntry (entriesOf w) (s .args .a) && isEntry (entriesOf w) (s .args .b)) (second-no-entry (entriesOf w) (s .args .a) (s .args .b) (omega (arith, c .before .entries-count2 .ensures))) .says
 
 -- src/lib.rt:55:8
 disjoint-requires : tie.Need-disjoint-requires
@@ -57,7 +57,7 @@ returns-3 c =
     let s = c .before .before .before .before .before .before .before in
     let w = now (s .args .image) in
     let e : shapes.disjoint (graphIn w) (entryAt (entriesOf w) (s .args .a)) (entryAt (entriesOf w) (s .args .b)) ≡ true = sym (c .before .disjoint .ensures) ∙ c .if3 .taken in
-    numbered-says w _ (isEntry (entriesOf w) (s .args .a) && isEntry (entriesOf w) (s .args .b))
+    read-on w BadNumber _ (isEntry (entriesOf w) (s .args .a) && isEntry (entriesOf w) (s .args .b))
     (two-entries (entriesOf w) (s .args .a) (s .args .b) (omega (arith, c .before .before .before .before .before .entries-count .ensures)) (omega (arith, c .before .before .before .entries-count2 .ensures)))
     (rw e)
 
@@ -68,7 +68,7 @@ returns-4 c =
     let s = c .before .before .before .before .before .before .before in
     let w = now (s .args .image) in
     let e : shapes.disjoint (graphIn w) (entryAt (entriesOf w) (s .args .a)) (entryAt (entriesOf w) (s .args .b)) ≡ false = sym (c .before .disjoint .ensures) ∙ c .if3 .left in
-    numbered-says w _ (isEntry (entriesOf w) (s .args .a) && isEntry (entriesOf w) (s .args .b))
+    read-on w BadNumber _ (isEntry (entriesOf w) (s .args .a) && isEntry (entriesOf w) (s .args .b))
     (two-entries (entriesOf w) (s .args .a) (s .args .b) (omega (arith, c .before .before .before .before .before .entries-count .ensures)) (omega (arith, c .before .before .before .entries-count2 .ensures)))
     (rw e)
 

@@ -1,18 +1,15 @@
 -- `entry_in`: reads an entry out, in a well formed image.
 use native.Mathlib.Omega.{arith}
-use mathlib.Core.Path.{_≡_, refl, sym, ap, _∙_}
-use mathlib.Core.Bool.{true, false}
-use lib.Dec.{T}
+use mathlib.Core.Path.{ap}
 use denote.Ref.{now}
-use borrow.Author.Tests.{not-true, not-false}
 use Rattle.model.specs.Formed.{isEntry}
 use Rattle.model.specs.Calls.{readEntryTurn, replyOf}
 use Rattle.model.specs.Told.{done, toldEntry}
 use Rattle.model.specs.declared.Entry.{Entry as EntryOut}
 use Rattle.image.specs.Shown.{entriesOf}
 use Rattle.image.proofs.Laying.{formed-laid}
-use Rattle.sheafwinch.proofs.Turning.{misnumbered, numbered-says, no-entry, an-entry}
-use borrow.Author.Needs.{needs}
+use Rattle.model.specs.declared.Refusal.the-variants.{BadNumber}
+use Rattle.sheafwinch.proofs.Turning.{stopped, read-on, no-entry, an-entry}
 use Rattle.sheafwinch.proofs.entry_in.Statement.{statement}
 use Rattle.sheafwinch.proofs.entry_in.Tie as tie
 use Rattle.sheafwinch.proofs.entry_in.Reads as reads
@@ -30,7 +27,7 @@ unfolding readEntryTurn
 returns c =
     let s = c .before .before .before in
     let w = now (s .args .image) in
-    misnumbered w _ (isEntry (entriesOf w) (s .args .n)) (no-entry (entriesOf w) (s .args .n) (omega (arith, c .before .entries-count .ensures))) .says
+    stopped w BadNumber _ (isEntry (entriesOf w) (s .args .n)) (no-entry (entriesOf w) (s .args .n) (omega (arith, c .before .entries-count .ensures))) .says
 
 -- src/lib.rt:31:22
 entry-requires : tie.Need-entry-requires
@@ -44,7 +41,7 @@ unfolding readEntryTurn replyOf
 returns-2 c =
     let s = c .before .before .before .before in
     let w = now (s .args .image) in
-    numbered-says w _ (isEntry (entriesOf w) (s .args .n)) (an-entry (entriesOf w) (s .args .n) (omega (arith, c .before .before .entries-count .ensures)))
+    read-on w BadNumber _ (isEntry (entriesOf w) (s .args .n)) (an-entry (entriesOf w) (s .args .n) (omega (arith, c .before .before .entries-count .ensures)))
     (ap (λ (e : EntryOut). done (toldEntry e)) (c .entry .ensures))
 
 pub entry-in-spec : {M : Type 1} → statement M

@@ -14,7 +14,8 @@ use Rattle.model.specs.Told.{done}
 use Rattle.laws.proofs.Regions.{entry-coded}
 use Rattle.image.proofs.Laying.{formed-laid}
 use Rattle.image.proofs.Reading.{entries-count as entries-are}
-use Rattle.sheafwinch.proofs.Turning.{misnumbered, numbered-says, no-record, a-record, record-words}
+use Rattle.model.specs.declared.Refusal.the-variants.{BadNumber}
+use Rattle.sheafwinch.proofs.Turning.{stopped, read-on, no-record, a-record, record-words}
 use Rattle.sheafwinch.proofs.entry_record.Statement.{statement}
 use Rattle.sheafwinch.proofs.entry_record.Tie as tie
 
@@ -27,7 +28,7 @@ unfolding readRecordTurn
 returns c =
     let s = c .before .before .before in
     let w = now (s .args .image) in
-    misnumbered w _ (isRegion 1 && ltb (s .args .n) (count w 1)) (no-record w 1 (s .args .n) (omega (arith, c .before .entries-count .ensures, entries-are w))) .says
+    stopped w BadNumber _ (isRegion 1 && ltb (s .args .n) (count w 1)) (no-record w 1 (s .args .n) (omega (arith, c .before .entries-count .ensures, entries-are w))) .says
 
 entry-word-requires : tie.Need-entry-word-requires
 entry-word-requires c κs =
@@ -72,7 +73,7 @@ returns-2 c =
     let n = s .args .n in
     let l = formed-laid w (s .pre) in
     let lt : n < count w 1 = omega (arith, c .before .before .before .before .before .before .before .before .entries-count .ensures, entries-are w) in
-    numbered-says w _ (isRegion 1 && ltb n (count w 1)) (a-record w 1 n refl lt)
+    read-on w BadNumber _ (isRegion 1 && ltb n (count w 1)) (a-record w 1 n refl lt)
     (rw (c .before .before .before .before .before .before .entry-word .ensures, c .before .before .before .before .before .entry-word2 .ensures, c .before .before .before .before .entry-word3 .ensures, c .before .before .before .entry-word4 .ensures, c .before .before .entry-word5 .ensures, c .before .entry-word6 .ensures, c .entry-word7 .ensures) (ap (λ (x : List ℕ). done (1 ∷ x)) (record-words entry-coded w 1 n _ lt (omega arith))))
 
 pub entry-record-spec : {M : Type 1} → statement M

@@ -14,7 +14,8 @@ use Rattle.model.specs.Told.{done}
 use Rattle.laws.proofs.Regions.{field-coded}
 use Rattle.image.proofs.Laying.{formed-laid}
 use Rattle.image.proofs.Reading.{fields-count as fields-are}
-use Rattle.sheafwinch.proofs.Turning.{misnumbered, numbered-says, no-record, a-record, record-words}
+use Rattle.model.specs.declared.Refusal.the-variants.{BadNumber}
+use Rattle.sheafwinch.proofs.Turning.{stopped, read-on, no-record, a-record, record-words}
 use Rattle.sheafwinch.proofs.field_record.Statement.{statement}
 use Rattle.sheafwinch.proofs.field_record.Tie as tie
 
@@ -27,7 +28,7 @@ unfolding readRecordTurn
 returns c =
     let s = c .before .before .before in
     let w = now (s .args .image) in
-    misnumbered w _ (isRegion 2 && ltb (s .args .n) (count w 2)) (no-record w 2 (s .args .n) (omega (arith, c .before .fields-count .ensures, fields-are w))) .says
+    stopped w BadNumber _ (isRegion 2 && ltb (s .args .n) (count w 2)) (no-record w 2 (s .args .n) (omega (arith, c .before .fields-count .ensures, fields-are w))) .says
 
 field-word-requires : tie.Need-field-word-requires
 field-word-requires c κs =
@@ -52,7 +53,7 @@ returns-2 c =
     let n = s .args .n in
     let l = formed-laid w (s .pre) in
     let lt : n < count w 2 = omega (arith, c .before .before .before .before .fields-count .ensures, fields-are w) in
-    numbered-says w _ (isRegion 2 && ltb n (count w 2)) (a-record w 2 n refl lt)
+    read-on w BadNumber _ (isRegion 2 && ltb n (count w 2)) (a-record w 2 n refl lt)
     (rw (c .before .before .field-word .ensures, c .before .field-word2 .ensures, c .field-word3 .ensures) (ap (λ (x : List ℕ). done (2 ∷ x)) (record-words field-coded w 2 n _ lt (omega arith))))
 
 pub field-record-spec : {M : Type 1} → statement M

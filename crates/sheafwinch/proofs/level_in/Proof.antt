@@ -2,12 +2,15 @@
 use native.Mathlib.Omega.{arith}
 use mathlib.Core.Path.{sym, _∙_}
 use denote.Ref.{now}
+use Rattle.model.specs.Format.{variable}
+use Rattle.model.specs.Table.{isAt}
 use borrow.Author.Needs.{needs}
 use Rattle.model.specs.Formed.{isEntry}
 use Rattle.model.specs.Calls.{setLevelTurn}
 use Rattle.image.specs.Shown.{entriesOf}
 use Rattle.image.proofs.Laying.{formed-laid, formed-shown}
-use Rattle.sheafwinch.proofs.Turning.{busy, idle, misnumbered, numbered, no-entry, an-entry, not-variable, is-variable, left-as, kind-variable, kind-other}
+use Rattle.model.specs.declared.Refusal.the-variants.{BadNumber, NotAVariable}
+use Rattle.sheafwinch.proofs.Turning.{busy, idle, stopped, gone-on, no-entry, an-entry, left-as, kind-variable, kind-other}
 use Rattle.sheafwinch.proofs.level_in.Statement.{statement}
 use Rattle.sheafwinch.proofs.level_in.Tie as tie
 
@@ -39,7 +42,7 @@ unfolding setLevelTurn
 returns-2 c =
     let s = c .before .before .before .before .before .before .before in
     let w = now (s .args .image) in
-    let k = idle w _ (sym (c .before .before .before .before .is-asked .ensures) ∙ c .before .before .before .if1 .left) (misnumbered w _ (isEntry (entriesOf w) (s .args .v)) (no-entry (entriesOf w) (s .args .v) (omega (arith, c .before .entries-count .ensures)))) in
+    let k = idle w _ (sym (c .before .before .before .before .is-asked .ensures) ∙ c .before .before .before .if1 .left) (stopped w BadNumber _ (isEntry (entriesOf w) (s .args .v)) (no-entry (entriesOf w) (s .args .v) (omega (arith, c .before .entries-count .ensures)))) in
     (k .says, k .leaves)
 
 entry-word-requires : tie.Need-entry-word-requires
@@ -57,8 +60,8 @@ returns-3 c =
     let s = c .before .before .before .before .before .before .before .before .before .before in
     let w = now (s .args .image) in
     let k = idle w _ (sym (c .before .before .before .before .before .before .before .is-asked .ensures) ∙ c .before .before .before .before .before .before .if1 .left)
-    (numbered w _ (isEntry (entriesOf w) (s .args .v)) (an-entry (entriesOf w) (s .args .v) (omega (arith, c .before .before .before .before .entries-count .ensures)))
-    (not-variable w _ (s .args .v) (kind-other (entriesOf w) (s .args .v) 0 0 (λ e. c .if3 .taken (c .before .entry-word .ensures ∙ e))))) in
+    (gone-on w BadNumber _ (isEntry (entriesOf w) (s .args .v)) (an-entry (entriesOf w) (s .args .v) (omega (arith, c .before .before .before .before .entries-count .ensures)))
+    (stopped w NotAVariable _ (isAt (entriesOf w) variable (s .args .v)) (kind-other (entriesOf w) (s .args .v) 0 0 (λ e. c .if3 .taken (c .before .entry-word .ensures ∙ e))))) in
     (k .says, k .leaves)
 
 set-level-requires : tie.Need-set-level-requires
@@ -76,8 +79,8 @@ returns-4 c =
     let s = c .before .before .before .before .before .before .before .before .before .before .before .before .before .before in
     let w = now (s .args .image) in
     let k = idle w _ (sym (c .before .before .before .before .before .before .before .before .before .before .before .is-asked .ensures) ∙ c .before .before .before .before .before .before .before .before .before .before .if1 .left)
-    (numbered w _ (isEntry (entriesOf w) (s .args .v)) (an-entry (entriesOf w) (s .args .v) (omega (arith, c .before .before .before .before .before .before .before .before .entries-count .ensures)))
-    (is-variable w _ (s .args .v) (kind-variable (entriesOf w) (s .args .v) 0 0 (sym (c .before .before .before .before .before .entry-word .ensures) ∙ c .before .before .before .before .if3 .left))
+    (gone-on w BadNumber _ (isEntry (entriesOf w) (s .args .v)) (an-entry (entriesOf w) (s .args .v) (omega (arith, c .before .before .before .before .before .before .before .before .entries-count .ensures)))
+    (gone-on w NotAVariable _ (isAt (entriesOf w) variable (s .args .v)) (kind-variable (entriesOf w) (s .args .v) 0 0 (sym (c .before .before .before .before .before .entry-word .ensures) ∙ c .before .before .before .before .if3 .left))
     (left-as w _ _ (c .before .before .set-level .ensures)))) in
     (k .says, k .leaves)
 

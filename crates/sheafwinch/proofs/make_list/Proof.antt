@@ -1,56 +1,45 @@
 -- `make_list`: makes a list of an element.
 use native.Mathlib.Omega.{arith}
-use mathlib.Core.Path.{_≡_, sym, _∙_}
-use mathlib.Core.Bool.{false}
-use lib.Dec.{T}
 use denote.Ref.{now}
-use borrow.Author.Tests.{not-true, not-false}
 use borrow.Author.Needs.{needs}
-use Rattle.model.specs.Formed.{wellFormed}
 use Rattle.model.specs.Calls.{turnOf, makesList}
-use Rattle.laws.proofs.Tests.{of-true}
-use Rattle.sheafwinch.proofs.Turning.{bad-table, good-table}
+use Rattle.sheafwinch.proofs.Turning.{refused-as, as-same, unfit, good-image, good}
 use Rattle.sheafwinch.proofs.make_list.Statement.{statement}
 use Rattle.sheafwinch.proofs.make_list.Tie as tie
-use Rattle.sheafwinch.proofs.make_list.Reads as reads
-use Rattle.sheafwinch.proofs.make_list.Lts as lts
-use Rattle.formed.proofs.check.Reads as check-reads
-use Rattle.sheafwinch.proofs.one_in.Reads as one-in-reads
 
--- src/lib.rt:89:9
-check-requires : tie.Need-check-requires
-check-requires c κs = search needs
+admit-requires : tie.Need-admit-requires
+admit-requires c κs = search needs
 
--- src/lib.rt:90:9
+enum-known-r : tie.Need-enum-known-r
+enum-known-r c = search needs
+
+enum-told : tie.Need-enum-told
+enum-told c = search needs
+
+one-in-requires : tie.Need-one-in-requires
+one-in-requires c κs = (good-image _ (c .before .before .before .admit .ensures) (c .before .enum-told .given .1), omega arith)
+
 same-length : tie.Need-same-length
 same-length c = search needs
 
--- src/lib.rt:90:9
 returns : tie.Need-returns
 returns c =
-    let s = c .before .before .before .before in
-    let e : wellFormed (now (s .args .image)) ≡ false = sym (c .before .check .ensures) ∙ not-true _ (c .if1 .taken) in
-    let k = bad-table (makesList (s .args .element)) (now (s .args .image)) e in
+    let s = c .before .before .before .before .before .before in
+    let w = now (s .args .image) in
+    let k = as-same (unfit w (c .before .before .before .admit .ensures) (makesList (s .args .element)) (c .before .r .given .1)) (refused-as w _) in
     (k .says, k .leaves)
 
--- src/lib.rt:92:5
-one-in-requires : tie.Need-one-in-requires
-one-in-requires c κs =
-    (of-true _ (sym (c .before .before .check .ensures) ∙ not-false _ (c .before .if1 .left)), omega arith)
-
--- src/lib.rt:85:1
 same-length-2 : tie.Need-same-length-2
 same-length-2 c = search needs
 
--- src/lib.rt:85:1
 returns-2 : tie.Need-returns-2
 unfolding turnOf
 returns-2 c =
-    let s = c .before .before .before .before .before .before .before .before in
-    let h : T (wellFormed (now (s .args .image))) = of-true _ (sym (c .before .before .before .before .before .check .ensures) ∙ not-false _ (c .before .before .before .before .if1 .left)) in
-    let k = good-table (makesList (s .args .element)) (now (s .args .image)) h (record { says = c .before .before .one-in .ensures .0; leaves = c .before .before .one-in .ensures .1 }) in
+    let s = c .before .before .before .before .before .before .before .before .before in
+    let w = now (s .args .image) in
+    let d = c .before .before .one-in .ensures in
+    let k = as-same (good w (c .before .before .before .before .before .before .admit .ensures) (makesList (s .args .element)) (c .before .before .before .before .enum-told .given .1)) (record { says = d .0; leaves = d .1 }) in
     (k .says, k .leaves)
 
 pub make-list-spec : {M : Type 1} → statement M
-make-list-spec =
-    tie.close (tie.spec check-requires same-length returns one-in-requires same-length-2 returns-2)
+make-list-spec = tie.close (tie.spec admit-requires enum-known-r enum-told one-in-requires same-length returns same-length-2 returns-2)

@@ -7,7 +7,8 @@ use Rattle.model.specs.Formed.{isEntry}
 use Rattle.model.specs.Calls.{markTurn}
 use Rattle.image.specs.Shown.{entriesOf}
 use Rattle.image.proofs.Laying.{formed-laid, formed-shown}
-use Rattle.sheafwinch.proofs.Turning.{busy, idle, misnumbered, numbered, no-entry, an-entry, left-as}
+use Rattle.model.specs.declared.Refusal.the-variants.{BadNumber}
+use Rattle.sheafwinch.proofs.Turning.{busy, idle, stopped, gone-on, no-entry, an-entry, left-as}
 use Rattle.sheafwinch.proofs.mark_in.Statement.{statement}
 use Rattle.sheafwinch.proofs.mark_in.Tie as tie
 
@@ -39,7 +40,7 @@ unfolding markTurn
 returns-2 c =
     let s = c .before .before .before .before .before .before .before in
     let w = now (s .args .image) in
-    let k = idle w _ (sym (c .before .before .before .before .is-asked .ensures) ∙ c .before .before .before .if1 .left) (misnumbered w _ (isEntry (entriesOf w) (s .args .n)) (no-entry (entriesOf w) (s .args .n) (omega (arith, c .before .entries-count .ensures)))) in
+    let k = idle w _ (sym (c .before .before .before .before .is-asked .ensures) ∙ c .before .before .before .if1 .left) (stopped w BadNumber _ (isEntry (entriesOf w) (s .args .n)) (no-entry (entriesOf w) (s .args .n) (omega (arith, c .before .entries-count .ensures)))) in
     (k .says, k .leaves)
 
 mark-requires : tie.Need-mark-requires
@@ -57,7 +58,7 @@ returns-3 c =
     let s = c .before .before .before .before .before .before .before .before .before .before .before in
     let w = now (s .args .image) in
     let k = idle w _ (sym (c .before .before .before .before .before .before .before .before .is-asked .ensures) ∙ c .before .before .before .before .before .before .before .if1 .left)
-    (numbered w _ (isEntry (entriesOf w) (s .args .n)) (an-entry (entriesOf w) (s .args .n) (omega (arith, c .before .before .before .before .before .entries-count .ensures)))
+    (gone-on w BadNumber _ (isEntry (entriesOf w) (s .args .n)) (an-entry (entriesOf w) (s .args .n) (omega (arith, c .before .before .before .before .before .entries-count .ensures)))
     (left-as w _ _ (c .before .before .mark .ensures))) in
     (k .says, k .leaves)
 

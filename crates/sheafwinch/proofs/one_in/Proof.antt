@@ -7,7 +7,8 @@ use Rattle.model.specs.Formed.{isEntry}
 use Rattle.model.specs.Calls.{oneTurn, newTurn}
 use Rattle.image.specs.Shown.{entriesOf}
 use Rattle.image.proofs.Laying.{formed-laid, formed-shown}
-use Rattle.sheafwinch.proofs.Turning.{busy, idle, misnumbered, numbered, no-entry, an-entry}
+use Rattle.model.specs.declared.Refusal.the-variants.{BadNumber}
+use Rattle.sheafwinch.proofs.Turning.{busy, idle, stopped, gone-on, no-entry, an-entry}
 use Rattle.sheafwinch.proofs.one_in.Statement.{statement}
 use Rattle.sheafwinch.proofs.one_in.Tie as tie
 use Rattle.sheafwinch.proofs.one_in.Reads as reads
@@ -49,7 +50,7 @@ returns-2 c =
     let s = c .before .before .before .before .before .before .before in
     let w = now (s .args .image) in
     let k = idle w _ (sym (c .before .before .before .before .is-asked .ensures) ∙ c .before .before .before .if1 .left)
-    (misnumbered w _ (isEntry (entriesOf w) (s .args .x)) (no-entry (entriesOf w) (s .args .x) (omega (arith, c .before .entries-count .ensures)))) in
+    (stopped w BadNumber _ (isEntry (entriesOf w) (s .args .x)) (no-entry (entriesOf w) (s .args .x) (omega (arith, c .before .entries-count .ensures)))) in
     (k .says, k .leaves)
 
 -- src/lib.rt:119:5
@@ -69,7 +70,7 @@ returns-3 c =
     let s = c .before .before .before .before .before .before .before .before .before .before .before in
     let w = now (s .args .image) in
     let k = idle w _ (sym (c .before .before .before .before .before .before .before .before .is-asked .ensures) ∙ c .before .before .before .before .before .before .before .if1 .left)
-    (numbered w _ (isEntry (entriesOf w) (s .args .x)) (an-entry (entriesOf w) (s .args .x) (omega (arith, c .before .before .before .before .before .entries-count .ensures)))
+    (gone-on w BadNumber _ (isEntry (entriesOf w) (s .args .x)) (an-entry (entriesOf w) (s .args .x) (omega (arith, c .before .before .before .before .before .entries-count .ensures)))
     (record { says = c .before .before .make .ensures .0; leaves = c .before .before .make .ensures .1 })) in
     (k .says, k .leaves)
 

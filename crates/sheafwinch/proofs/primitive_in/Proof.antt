@@ -8,7 +8,8 @@ use borrow.Author.Needs.{needs}
 use Rattle.model.specs.Format.{number}
 use Rattle.model.specs.Calls.{primitiveTurn, newTurn}
 use Rattle.image.proofs.Laying.{formed-shown}
-use Rattle.sheafwinch.proofs.Turning.{busy, idle, misnumbered, numbered}
+use Rattle.model.specs.declared.Refusal.the-variants.{BadNumber}
+use Rattle.sheafwinch.proofs.Turning.{busy, idle, stopped, gone-on}
 use Rattle.sheafwinch.proofs.primitive_in.Statement.{statement}
 use Rattle.sheafwinch.proofs.primitive_in.Tie as tie
 use Rattle.sheafwinch.proofs.primitive_in.Reads as reads
@@ -42,7 +43,7 @@ returns-2 : tie.Need-returns-2
 unfolding primitiveTurn
 returns-2 c =
     let s = c .before .before .before .before .before in
-    let k = idle (now (s .args .image)) _ (sym (c .before .before .is-asked .ensures) ∙ c .before .if1 .left) (misnumbered (now (s .args .image)) _ (leb (s .args .which) number) (lt-leb (s .args .which) number (omega arith))) in
+    let k = idle (now (s .args .image)) _ (sym (c .before .before .is-asked .ensures) ∙ c .before .if1 .left) (stopped (now (s .args .image)) BadNumber _ (leb (s .args .which) number) (lt-leb (s .args .which) number (omega arith))) in
     (k .says, k .leaves)
 
 -- src/lib.rt:81:5
@@ -58,7 +59,7 @@ returns-3 : tie.Need-returns-3
 unfolding primitiveTurn newTurn
 returns-3 c =
     let s = c .before .before .before .before .before .before .before .before .before in
-    let k = idle (now (s .args .image)) _ (sym (c .before .before .before .before .before .before .is-asked .ensures) ∙ c .before .before .before .before .before .if1 .left) (numbered (now (s .args .image)) _ (leb (s .args .which) number) (le-leb (s .args .which) number (omega arith))
+    let k = idle (now (s .args .image)) _ (sym (c .before .before .before .before .before .before .is-asked .ensures) ∙ c .before .before .before .before .before .if1 .left) (gone-on (now (s .args .image)) BadNumber _ (leb (s .args .which) number) (le-leb (s .args .which) number (omega arith))
     (record { says = c .before .before .make .ensures .0; leaves = c .before .before .make .ensures .1 })) in
     (k .says, k .leaves)
 

@@ -1,43 +1,37 @@
 -- `record`: reads record n of a region, 1 to 6, as it stands.
-use mathlib.Core.Path.{_≡_, sym, _∙_}
-use mathlib.Core.Bool.{false}
-use lib.Dec.{T}
+use mathlib.Core.Path.{_∙_, ap}
 use denote.Ref.{now}
-use borrow.Author.Tests.{not-true, not-false}
 use borrow.Author.Needs.{needs}
-use Rattle.model.specs.Formed.{wellFormed}
-use Rattle.model.specs.Calls.{turnOf, readsRecord}
-use Rattle.laws.proofs.Tests.{of-true}
-use Rattle.sheafwinch.proofs.Turning.{bad-table, good-says}
+use Rattle.model.specs.Calls.{Reply, replyOf, turnOf, readsRecord}
+use Rattle.sheafwinch.proofs.Turning.{unfit, good-image, good}
 use Rattle.sheafwinch.proofs.record.Statement.{statement}
 use Rattle.sheafwinch.proofs.record.Tie as tie
 
-check-requires : tie.Need-check-requires
-check-requires c κs =
-    search needs
+admit-requires : tie.Need-admit-requires
+admit-requires c κs = search needs
 
-returns : tie.Need-returns
-returns c =
-    let s = c .before .before .before in
-    let e : wellFormed (now (s .args .image)) ≡ false = sym (c .before .check .ensures) ∙ not-true _ (c .if1 .taken) in
-    bad-table (readsRecord (s .args .region) (s .args .n)) (now (s .args .image)) e .says
+enum-known-r : tie.Need-enum-known-r
+enum-known-r c = search needs
+
+enum-told : tie.Need-enum-told
+enum-told c = search needs
 
 record-in-requires : tie.Need-record-in-requires
-record-in-requires c κs =
-    of-true _ (sym (c .before .check .ensures) ∙ not-false _ (c .if1 .left))
+record-in-requires c κs = good-image _ (c .before .before .admit .ensures) (c .enum-told .given .1)
+
+returns : tie.Need-returns
+unfolding replyOf
+returns c =
+    let s = c .before .before .before .before .before in
+    let w = now (s .args .image) in
+    ap (λ (x : Reply). x .says) (unfit w (c .before .before .before .admit .ensures) (readsRecord (s .args .region) (s .args .n)) (c .before .r .given .1))
 
 returns-2 : tie.Need-returns-2
 unfolding turnOf
 returns-2 c =
-    let s = c .before .before .before .before in
-    let h : T (wellFormed (now (s .args .image))) = of-true _ (sym (c .before .before .check .ensures) ∙ not-false _ (c .before .if1 .left)) in
-    good-says (readsRecord (s .args .region) (s .args .n)) (now (s .args .image)) h (c .record-in .ensures)
+    let s = c .before .before .before .before .before in
+    let w = now (s .args .image) in
+    c .record-in .ensures ∙ ap (λ (x : Reply). x .says) (good w (c .before .before .before .admit .ensures) (readsRecord (s .args .region) (s .args .n)) (c .before .enum-told .given .1))
 
 pub record-spec : {M : Type 1} → statement M
-record-spec =
-    tie.close
-    (tie.spec
-    check-requires
-    returns
-    record-in-requires
-    returns-2)
+record-spec = tie.close (tie.spec admit-requires enum-known-r enum-told record-in-requires returns returns-2)

@@ -5,7 +5,8 @@ use lib.Dec.{ltb}
 use Rattle.model.specs.Format.{isRegion}
 use Rattle.model.specs.Image.{count}
 use Rattle.model.specs.Calls.{readRecordTurn}
-use Rattle.sheafwinch.proofs.Turning.{misnumbered, no-region}
+use Rattle.model.specs.declared.Refusal.the-variants.{BadNumber}
+use Rattle.sheafwinch.proofs.Turning.{stopped, no-region}
 use Rattle.sheafwinch.proofs.record_in.Statement.{statement}
 use Rattle.sheafwinch.proofs.record_in.Tie as tie
 
@@ -63,7 +64,7 @@ returns-7 c =
     let s = c .before .before in
     let w = now (s .args .image) in
     let r = c .match .rest in
-    misnumbered w _ (isRegion (s .args .region) && ltb (s .args .n) (count w (s .args .region)))
+    stopped w BadNumber _ (isRegion (s .args .region) && ltb (s .args .n) (count w (s .args .region)))
     (rw (no-region (s .args .region) (r .0 .0 .0 .0 .0 .1) (r .0 .0 .0 .0 .1) (r .0 .0 .0 .1) (r .0 .0 .1) (r .0 .1) (r .1))) .says
 
 pub record-in-spec : {M : Type 1} → statement M

@@ -8,7 +8,8 @@ use Rattle.model.specs.Formed.{isEntry}
 use Rattle.model.specs.Calls.{twoTurn, newTurn}
 use Rattle.image.specs.Shown.{entriesOf}
 use Rattle.image.proofs.Laying.{formed-laid, formed-shown}
-use Rattle.sheafwinch.proofs.Turning.{busy, idle, misnumbered, numbered, two-entries, first-no-entry, second-no-entry}
+use Rattle.model.specs.declared.Refusal.the-variants.{BadNumber}
+use Rattle.sheafwinch.proofs.Turning.{busy, idle, stopped, gone-on, two-entries, first-no-entry, second-no-entry}
 use Rattle.sheafwinch.proofs.two_in.Statement.{statement}
 use Rattle.sheafwinch.proofs.two_in.Tie as tie
 use Rattle.sheafwinch.proofs.two_in.Reads as reads
@@ -50,7 +51,7 @@ returns-2 c =
     let s = c .before .before .before .before .before .before .before in
     let w = now (s .args .image) in
     let k = idle w _ (sym (c .before .before .before .before .is-asked .ensures) ∙ c .before .before .before .if1 .left)
-    (misnumbered w _ (isEntry (entriesOf w) (s .args .x) && isEntry (entriesOf w) (s .args .y)) (first-no-entry (entriesOf w) (s .args .x) (s .args .y) (omega (arith, c .before .entries-count .ensures)))) in
+    (stopped w BadNumber _ (isEntry (entriesOf w) (s .args .x) && isEntry (entriesOf w) (s .args .y)) (first-no-entry (entriesOf w) (s .args .x) (s .args .y) (omega (arith, c .before .entries-count .ensures)))) in
     (k .says, k .leaves)
 
 -- src/lib.rt:167:8
@@ -69,7 +70,7 @@ returns-3 c =
     let s = c .before .before .before .before .before .before .before .before .before .before in
     let w = now (s .args .image) in
     let k = idle w _ (sym (c .before .before .before .before .before .before .before .is-asked .ensures) ∙ c .before .before .before .before .before .before .if1 .left)
-    (misnumbered w _ (isEntry (entriesOf w) (s .args .x) && isEntry (entriesOf w) (s .args .y)) (second-no-entry (entriesOf w) (s .args .x) (s .args .y) (omega (arith, c .before .entries-count2 .ensures)))) in
+    (stopped w BadNumber _ (isEntry (entriesOf w) (s .args .x) && isEntry (entriesOf w) (s .args .y)) (second-no-entry (entriesOf w) (s .args .x) (s .args .y) (omega (arith, c .before .entries-count2 .ensures)))) in
     (k .says, k .leaves)
 
 -- src/lib.rt:170:5
@@ -89,7 +90,7 @@ returns-4 c =
     let s = c .before .before .before .before .before .before .before .before .before .before .before .before .before .before in
     let w = now (s .args .image) in
     let k = idle w _ (sym (c .before .before .before .before .before .before .before .before .before .before .before .is-asked .ensures) ∙ c .before .before .before .before .before .before .before .before .before .before .if1 .left)
-    (numbered w _ (isEntry (entriesOf w) (s .args .x) && isEntry (entriesOf w) (s .args .y)) (two-entries (entriesOf w) (s .args .x) (s .args .y) (omega (arith, c .before .before .before .before .before .before .before .before .entries-count .ensures)) (omega (arith, c .before .before .before .before .before .entries-count2 .ensures)))
+    (gone-on w BadNumber _ (isEntry (entriesOf w) (s .args .x) && isEntry (entriesOf w) (s .args .y)) (two-entries (entriesOf w) (s .args .x) (s .args .y) (omega (arith, c .before .before .before .before .before .before .before .before .entries-count .ensures)) (omega (arith, c .before .before .before .before .before .entries-count2 .ensures)))
     (record { says = c .before .before .make .ensures .0; leaves = c .before .before .make .ensures .1 })) in
     (k .says, k .leaves)
 

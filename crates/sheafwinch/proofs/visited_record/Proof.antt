@@ -14,7 +14,8 @@ use Rattle.model.specs.Told.{done}
 use Rattle.laws.proofs.Regions.{pair-coded}
 use Rattle.image.proofs.Laying.{formed-laid}
 use Rattle.image.proofs.Reading.{visited-count as visited-are}
-use Rattle.sheafwinch.proofs.Turning.{misnumbered, numbered-says, no-record, a-record, record-words}
+use Rattle.model.specs.declared.Refusal.the-variants.{BadNumber}
+use Rattle.sheafwinch.proofs.Turning.{stopped, read-on, no-record, a-record, record-words}
 use Rattle.sheafwinch.proofs.visited_record.Statement.{statement}
 use Rattle.sheafwinch.proofs.visited_record.Tie as tie
 
@@ -27,7 +28,7 @@ unfolding readRecordTurn
 returns c =
     let s = c .before .before .before in
     let w = now (s .args .image) in
-    misnumbered w _ (isRegion 4 && ltb (s .args .n) (count w 4)) (no-record w 4 (s .args .n) (omega (arith, c .before .visited-count .ensures, visited-are w))) .says
+    stopped w BadNumber _ (isRegion 4 && ltb (s .args .n) (count w 4)) (no-record w 4 (s .args .n) (omega (arith, c .before .visited-count .ensures, visited-are w))) .says
 
 visited-word-requires : tie.Need-visited-word-requires
 visited-word-requires c κs =
@@ -47,7 +48,7 @@ returns-2 c =
     let n = s .args .n in
     let l = formed-laid w (s .pre) in
     let lt : n < count w 4 = omega (arith, c .before .before .before .visited-count .ensures, visited-are w) in
-    numbered-says w _ (isRegion 4 && ltb n (count w 4)) (a-record w 4 n refl lt)
+    read-on w BadNumber _ (isRegion 4 && ltb n (count w 4)) (a-record w 4 n refl lt)
     (rw (c .before .visited-word .ensures, c .visited-word2 .ensures) (ap (λ (x : List ℕ). done (4 ∷ x)) (record-words pair-coded w 4 n _ lt (omega arith))))
 
 pub visited-record-spec : {M : Type 1} → statement M

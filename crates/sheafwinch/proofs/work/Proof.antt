@@ -1,56 +1,48 @@
--- `work`: refused where the image is not well formed, else what crate `questions` does.
-use mathlib.Core.Path.{_≡_, sym, _∙_}
-use mathlib.Core.Bool.{false}
-use lib.Dec.{T}
+-- `work`: refused where the image is unfit, else what crate `questions` does.
+use mathlib.Core.Path.{_∙_, ap}
 use denote.Ref.{now}
-use borrow.Author.Tests.{not-true, not-false}
 use borrow.Author.Needs.{needs}
-use Rattle.model.specs.Formed.{wellFormed}
-use Rattle.model.specs.Calls.{turnOf, works}
-use Rattle.laws.proofs.Tests.{of-true}
-use Rattle.sheafwinch.proofs.Turning.{bad-table, good-table, bad-steps, good-steps}
+use Rattle.model.specs.Calls.{Reply, replyOf, turnOf, works}
+use Rattle.sheafwinch.proofs.Turning.{refused-as, as-same, unfit, good-image, good}
 use Rattle.sheafwinch.proofs.work.Statement.{statement}
 use Rattle.sheafwinch.proofs.work.Tie as tie
 
-check-requires : tie.Need-check-requires
-check-requires c κs =
-    search needs
+admit-requires : tie.Need-admit-requires
+admit-requires c κs = search needs
 
-same-length : tie.Need-same-length
-same-length c =
-    search needs
+enum-known-r : tie.Need-enum-known-r
+enum-known-r c = search needs
 
-returns : tie.Need-returns
-returns c =
-    let s = c .before .before .before .before in
-    let e : wellFormed (now (s .args .image)) ≡ false = sym (c .before .check .ensures) ∙ not-true _ (c .if1 .taken) in
-    let k = bad-table (works (s .args .budget)) (now (s .args .image)) e in
-    (k .says, (bad-steps (works (s .args .budget)) (now (s .args .image)) e, k .leaves))
+enum-told : tie.Need-enum-told
+enum-told c = search needs
 
 work-requires : tie.Need-work-requires
-work-requires c κs =
-    of-true _ (sym (c .before .before .check .ensures) ∙ not-false _ (c .before .if1 .left))
+work-requires c κs = good-image _ (c .before .before .before .admit .ensures) (c .before .enum-told .given .1)
+
+same-length : tie.Need-same-length
+same-length c = search needs
+
+returns : tie.Need-returns
+unfolding replyOf
+returns c =
+    let s = c .before .before .before .before .before .before in
+    let w = now (s .args .image) in
+    let q = unfit w (c .before .before .before .admit .ensures) (works (s .args .budget)) (c .before .r .given .1) in
+    let k = as-same q (refused-as w (c .before .r .given .0 .0)) in
+    (k .says, (ap (λ (x : Reply). x .steps) q, k .leaves))
 
 same-length-2 : tie.Need-same-length-2
-same-length-2 c =
-    search needs
+same-length-2 c = search needs
 
 returns-2 : tie.Need-returns-2
 unfolding turnOf
 returns-2 c =
-    let s = c .before .before .before .before .before .before .before .before in
-    let h : T (wellFormed (now (s .args .image))) = of-true _ (sym (c .before .before .before .before .before .check .ensures) ∙ not-false _ (c .before .before .before .before .if1 .left)) in
+    let s = c .before .before .before .before .before .before .before .before .before in
+    let w = now (s .args .image) in
     let d = c .before .before .work .ensures in
-    let k = good-table (works (s .args .budget)) (now (s .args .image)) h (record { says = d .0; leaves = d .1 .1 }) in
-    (k .says, (good-steps (works (s .args .budget)) (now (s .args .image)) h (d .1 .0), k .leaves))
+    let q = good w (c .before .before .before .before .before .before .admit .ensures) (works (s .args .budget)) (c .before .before .before .before .enum-told .given .1) in
+    let k = as-same q (record { says = d .0; leaves = d .1 .1 }) in
+    (k .says, (d .1 .0 ∙ ap (λ (x : Reply). x .steps) q, k .leaves))
 
 pub work-spec : {M : Type 1} → statement M
-work-spec =
-    tie.close
-    (tie.spec
-    check-requires
-    same-length
-    returns
-    work-requires
-    same-length-2
-    returns-2)
+work-spec = tie.close (tie.spec admit-requires enum-known-r enum-told work-requires same-length returns same-length-2 returns-2)
