@@ -1,5 +1,5 @@
 -- What the contract of a call says: what is told, the steps and the words after are the model's. The contracts of every face are of this
--- form (crates/sheafwinch/proofs/Met.antt, crates/capi/proofs/Met.antt), so that each demand is stated once, over it. Assumes nothing.
+-- form (crates/sheafwinch/proofs/Contracts.antt, crates/capi/proofs/Contracts.antt), so that each demand is stated once, over it. Assumes nothing.
 use Prim.Native.Nat.{ℕ, _+_, _<_}
 use mathlib.Core.Path.{_≡_}
 use mathlib.Core.List.{List, [], _∷_}
