@@ -7,9 +7,10 @@ use mathlib.Core.List.{List, [], _∷_}
 use mathlib.Core.Bool.{Bool, true, false, cond, _&&_}
 use lib.ListN.{length, take}
 use lib.Dec.{eqb, ltb}
-use Rattle.model.specs.Told.{Told, done, yes, more, failed, refused, toldRefusal, toldFailure, toldReply, toldMade, toldAnswer, toldAttrset, toldEntry, toldEntryRead, toldRecord, toldDisjointness}
+use Rattle.model.specs.Told.{Told, done, yes, more, failed, refused, carried, carriedValues, toldRefusal, toldFailure, toldReply, toldMade, toldAnswer, toldAttrset, toldEntry, toldEntryRead, toldRecord, toldDisjointness}
 use Rattle.model.specs.declared.Refusal.{Refusal}
-use Rattle.model.specs.declared.Refusal.the-variants as R
+use Rattle.model.specs.declared.Carried.{Carried}
+use Rattle.model.specs.declared.Carried.the-variants as K
 use Rattle.model.specs.declared.Failure.{Failure}
 use Rattle.model.specs.declared.Failure.the-variants as F
 use Rattle.model.specs.declared.Reply.{Reply}
@@ -103,19 +104,13 @@ pub steps-once : (s u : ℕ) (a b : Told) → answerOf s a ≡ answerOf u b → 
 steps-once s u a b e = sym (steps-found s a) ∙ ap (λ (x : Answer). x .steps) e ∙ steps-found u b
 
 -- what each answer tells fits
+carried-fits : (c : Carried) → length (carriedValues c) ≤ 8
+carried-fits K.Nothing = omega arith
+carried-fits (K.Region region) = omega arith
+carried-fits (K.Break kind sub sup name) = omega arith
+
 pub refusal-fits : (r : Refusal) → Fits (toldRefusal r)
-refusal-fits R.BadTable = omega arith
-refusal-fits R.BadNumber = omega arith
-refusal-fits R.Busy = omega arith
-refusal-fits R.Idle = omega arith
-refusal-fits (R.NoRoom region) = omega arith
-refusal-fits R.TooDeep = omega arith
-refusal-fits R.BadFields = omega arith
-refusal-fits (R.Broken kind sub sup name) = omega arith
-refusal-fits R.BadCapacity = omega arith
-refusal-fits R.Level = omega arith
-refusal-fits R.NotAVariable = omega arith
-refusal-fits R.BadNames = omega arith
+refusal-fits r = carried-fits (carried r)
 
 pub reply-fits : (r : Reply) → Fits (toldReply r)
 reply-fits Y.Done = omega arith

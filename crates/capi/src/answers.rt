@@ -1,6 +1,7 @@
 // Answers as C gets them: each enum's cases with 01's number and values.
 use crate::Answer;
 use model::Attrset;
+use model::Carried;
 use model::Disjointness;
 use model::Dynamic;
 use model::Entry;
@@ -179,24 +180,16 @@ fn none(kind: u32, number: u32, steps: u32) -> Answer
 pub fn of_refusal(steps: u32, refusal: Refusal) -> Answer
     ensures { λ r. ⌜ r ≡ answerOf steps (toldRefusal refusal) ⌝ }
 {
-    match refusal {
-        Refusal::BadTable => none(REFUSED, 1, steps),
-        Refusal::BadNumber => none(REFUSED, 2, steps),
-        Refusal::Busy => none(REFUSED, 3, steps),
-        Refusal::Idle => none(REFUSED, 4, steps),
-        Refusal::NoRoom(region) => one(REFUSED, 5, steps, region),
-        Refusal::TooDeep => none(REFUSED, 6, steps),
-        Refusal::BadFields => none(REFUSED, 7, steps),
-        Refusal::Broken {
+    let number = refusals::number(refusal);
+    match refusals::carried(refusal) {
+        Carried::Nothing => none(REFUSED, number, steps),
+        Carried::Region(region) => one(REFUSED, number, steps, region),
+        Carried::Break {
             kind,
             sub,
             sup,
             name,
-        } => four(REFUSED, 8, steps, kind, sub, sup, name),
-        Refusal::BadCapacity => none(REFUSED, 9, steps),
-        Refusal::Level => none(REFUSED, 10, steps),
-        Refusal::NotAVariable => none(REFUSED, 11, steps),
-        Refusal::BadNames => none(REFUSED, 12, steps),
+        } => four(REFUSED, number, steps, kind, sub, sup, name),
     }
 }
 

@@ -113,13 +113,10 @@ fn print_search(list: &[u8], bytes: &[u8]) {
     print(b"\n");
 }
 
-// 01's number for a refusal. A name call gives these two, and no other.
+// 01's number for a refusal.
 fn print_refusal(r: Refusal) {
-    match r {
-        Refusal::BadNumber => print(b"refused 2"),
-        Refusal::BadNames => print(b"refused 12"),
-        _ => print(b"refused"),
-    }
+    print(b"refused ");
+    print_number(refusals::number(r));
 }
 
 // A number in decimal.

@@ -2,11 +2,13 @@
 use model::Carried;
 use model::Refusal;
 ghost use mathlib.Core.Path.{_≡_};
+ghost use Prim.Native.Nat.{_≤_};
 ghost use Rattle.model.specs.Told.{numberOf, carried as carriedBy};
 
 // A refusal's number.
 pub fn number(r: Refusal) -> u32
     ensures { λ n. ⌜ n ≡ numberOf r ⌝ }
+    ensures { λ n. ⌜ n ≤ 12 ⌝ }
 {
     match r {
         Refusal::BadTable => 1,

@@ -1,6 +1,7 @@
 // Questions asked and worked, and what the calls answer, told in words on standard output; a field by its name in a lent name list.
 use libc::STDOUT_FILENO;
 use model::Answer;
+use model::Carried;
 use model::Failure;
 use model::Instalment;
 use model::Refusal;
@@ -11,7 +12,12 @@ const ALL: u32 = 4294967295;
 
 // Writes all of s.
 pub fn print(s: &[u8]) {
-    io::write_all(STDOUT_FILENO, s);
+    write(STDOUT_FILENO, s);
+}
+
+// The same to a file.
+fn write(fd: i32, s: &[u8]) {
+    io::write_all(fd, s);
 }
 
 // A number in decimal.
@@ -93,36 +99,69 @@ fn print_missing(list: &[u8], sub: u32, sup: u32, name: u32) {
     print_pair(sub, sup);
 }
 
-// A refusal, by its number and its name in 01.
+// A refusal, by its number and its name in 01, and what it carries.
 fn print_refusal(list: &[u8], r: Refusal) {
     print(b"refused ");
-    match r {
-        Refusal::BadTable => print(b"1 BAD TABLE"),
-        Refusal::BadNumber => print(b"2 BAD NUMBER"),
-        Refusal::Busy => print(b"3 BUSY"),
-        Refusal::Idle => print(b"4 IDLE"),
-        Refusal::NoRoom(region) => print_room(region),
-        Refusal::TooDeep => print(b"6 TOO DEEP"),
-        Refusal::Broken {
+    print_name(STDOUT_FILENO, r);
+    match refusals::carried(r) {
+        Carried::Nothing => {}
+        Carried::Region(region) => print_room(region),
+        Carried::Break {
             kind,
             sub,
             sup,
             name,
         } => print_broken(list, kind, sub, sup, name),
-        _ => print(b"ANOTHER"),
+    }
+}
+
+// A refusal's number and name in 01.
+pub fn print_name(fd: i32, r: Refusal) {
+    io::print_decimal(fd, refusals::number(r) as u64);
+    match r {
+        Refusal::BadTable => write(fd, b" BAD TABLE"),
+        Refusal::BadNumber => write(fd, b" BAD NUMBER"),
+        Refusal::Busy => write(fd, b" BUSY"),
+        Refusal::Idle => write(fd, b" IDLE"),
+        Refusal::NoRoom(_) => write(fd, b" NO ROOM"),
+        Refusal::TooDeep => write(fd, b" TOO DEEP"),
+        Refusal::BadFields => write(fd, b" BAD FIELDS"),
+        Refusal::Broken {
+            kind: _,
+            sub: _,
+            sup: _,
+            name: _,
+        } => write(fd, b" BROKEN"),
+        Refusal::BadCapacity => write(fd, b" BAD CAPACITY"),
+        Refusal::Level => write(fd, b" LEVEL"),
+        Refusal::NotAVariable => write(fd, b" NOT A VARIABLE"),
+        Refusal::BadNames => write(fd, b" BAD NAMES"),
+    }
+}
+
+// A region's name.
+pub fn print_region(fd: i32, region: u32) {
+    match region {
+        image::ENTRIES => write(fd, b"entries"),
+        image::FIELDS => write(fd, b"fields"),
+        image::BOUNDS => write(fd, b"bounds"),
+        image::VISITED => write(fd, b"visited"),
+        image::PENDING => write(fd, b"pending"),
+        image::EQUALS => write(fd, b"equals"),
+        _ => {}
     }
 }
 
 // The region that is full.
 fn print_room(region: u32) {
-    print(b"5 NO ROOM(");
+    print(b"(");
     print_number(region);
     print(b")");
 }
 
 // The failure that the table keeps.
 fn print_broken(list: &[u8], kind: u32, sub: u32, sup: u32, name: u32) {
-    print(b"8 BROKEN, kind ");
+    print(b", kind ");
     print_number(kind);
     print(b", ");
     if kind == image::FIELD_MISSING {
