@@ -1,3 +1,4 @@
 pub mod OneToOne
 pub mod Telling
 pub mod Settled
+pub mod Contracts
