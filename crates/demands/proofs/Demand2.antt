@@ -5,28 +5,26 @@ use Prim.Native.Nat.{ℕ, _<_}
 use native.Mathlib.Omega.{arith}
 use mathlib.Core.Path.{_≡_, refl, sym, ap, _∙_, subst}
 use mathlib.Core.List.{List, [], reverse}
-use mathlib.Core.Option.{Option, none, some}
+use mathlib.Core.Option.{none, some}
 use mathlib.Core.Bool.{true, false, not}
 use mathlib.Core.Logic.{_↔_}
 use lib.Dec.{T}
 use Rattle.instalments.specs.Whole.{well, broken, Whole}
-use Rattle.model.specs.Format.{wordEnd}
 use Rattle.model.specs.Table.{Pair, Break, Capacities, Store, tableOf, isAsked, isBroken}
 use Rattle.model.specs.Image.{table}
 use Rattle.model.specs.Formed.{wellFormed}
 use Rattle.model.specs.Rules.{breakOf, rule}
 use Rattle.model.specs.Told.{Told, done, yes, toldRefusal, toldFailure}
-use Rattle.model.specs.Calls.{recorded, pairsOf, brokenBy, Call, asks, works, capacitiesRight, perform}
+use Rattle.model.specs.Calls.{recorded, pairsOf, brokenBy, asks, works, capacitiesRight, perform}
 use Rattle.model.specs.declared.Question.{Question}
 use Rattle.model.specs.declared.Failure.{Failure}
 use Rattle.model.specs.declared.Refusal.the-variants as R
-use Rattle.laws.specs.Turns.{storedArgument}
 use Rattle.laws.specs.Refusals.{breakAfter, plain}
 use Rattle.laws.proofs.Calls.{call-formed}
 use Rattle.laws.proofs.Runs.{read-as, done-formed}
 use Rattle.laws.proofs.Breaks.{call-keeps-break, failed-asked, failed-fills, failed-broken, same-broken, plain-never-broken, held-refused-exactly}
 use Rattle.demands.specs.Started.{Ours, started, called, firstTold}
-use Rattle.demands.specs.Meets.{Meets, MeetsStart, Later, at-once, later, Run, Instalments}
+use Rattle.demands.specs.Meets.{Meets, MeetsStart, Later, at-once, later, Run}
 use Rattle.demands.proofs.Started as ours
 use Rattle.demands.proofs.Demand1.{refused-leaves-all}
 use Rattle.demands.proofs.Demand3.{run-formed, asked-in-instalments}

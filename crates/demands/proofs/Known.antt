@@ -1,9 +1,8 @@
 -- What a call tells by number is a failure or a refusal of 01's: there is no other number. So a face that tells numbers tells which.
 -- Assumes nothing.
 use Prim.Native.Nat.{ℕ}
-use mathlib.Core.Path.{_≡_, refl, subst}
+use mathlib.Core.Path.{_≡_, refl}
 use mathlib.Core.List.{List}
-use mathlib.Core.Bool.{false}
 use Rattle.instalments.specs.Machine.{yes-in, fail-in, more-at, Roomed, answered, refused-in}
 use Rattle.instalments.specs.Machine as machine
 use Rattle.model.specs.Table.{Pair, Store, Table, isAsked}
@@ -11,12 +10,11 @@ use Rattle.model.specs.Image.{table}
 use Rattle.model.specs.Rules.{rule}
 use Rattle.model.specs.Room.{room}
 use Rattle.model.specs.Told.{Told, done, yes, more, failed, refused, toldRefusal, toldFailure}
-use Rattle.model.specs.Calls.{Reply, Turn, refuse, tell, leave, replyOf, workedTurn, workTurn, Call, works, turnOf, perform}
+use Rattle.model.specs.Calls.{Reply, Turn, refuse, tell, leave, replyOf, workedTurn, workTurn, Call, turnOf, perform}
 use Rattle.model.specs.declared.Failure.{Failure}
 use Rattle.model.specs.declared.Failure.the-variants.{Mismatch, MissingField}
 use Rattle.model.specs.declared.Refusal.{Refusal}
 use Rattle.laws.specs.Turns.{IsDone, Plainly}
-use Rattle.laws.specs.Refusals.{isWork}
 use Rattle.laws.proofs.Replies.{by-provided, by-admission}
 use Rattle.laws.proofs.Refused.{plainly, by-call}
 

@@ -3,15 +3,14 @@
 use Prim.Native.Nat.{ℕ}
 use mathlib.Core.Path.{_≡_, refl, sym, ap, _∙_, subst}
 use mathlib.Core.List.{List, [], _∷_, _++_}
-use mathlib.Core.Option.{Option}
-use mathlib.Core.Bool.{Bool, true, false, not, cond, _||_}
+use mathlib.Core.Bool.{Bool, true, false, not, _||_}
 use mathlib.Core.Logic.{_⊎_, inl, inr}
 use lib.Dec.{T, eqb}
 use Rattle.instalments.specs.Machine.{Outcome, fails, goes}
 use Rattle.histories.specs.Histories.{Event, opens, steps, breaks, quits, changes, History, begun, next}
-use Rattle.model.specs.Table.{Pair, Graph, Store, Table, tableOf, graphOf, isBroken, withVisited, withGraph, withBroken}
+use Rattle.model.specs.Table.{Pair, Store, Table, tableOf, graphOf, isBroken, withVisited, withGraph, withBroken}
 use Rattle.model.specs.Image.{table}
-use Rattle.model.specs.Rules.{Effect, mismatch, missing, follow, pairRule, isVisited, visit, breakOf, fillBreak, failing, outcomeOf, rule}
+use Rattle.model.specs.Rules.{Effect, mismatch, missing, follow, pairRule, isVisited, visit, fillBreak, failing, outcomeOf, rule}
 use Rattle.model.specs.Calls.{emptyTable, opened}
 use Rattle.model.specs.declared.Failure.{Failure}
 use Rattle.laws.proofs.Stores.{by-test}
