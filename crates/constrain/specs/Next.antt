@@ -3,10 +3,10 @@ use Prim.Native.Nat.{ℕ, _<_}
 use mathlib.Core.Path.{_≡_}
 use mathlib.Core.List.{List, [], _∷_}
 use lib.ListN.{length}
-use Rattle.model.specs.Format.{lambda}
+use Rattle.model.specs.Format.{lambda, lower, upper}
 use Rattle.model.specs.Table.{Entry, Field, Pair, _⊑_, Graph}
 use Rattle.model.specs.Making.{newEntry, makeNeg}
-use Rattle.model.specs.Rules.{Effect, mismatch, missing, follow, followMade, target, subVariable, supVariable}
+use Rattle.model.specs.Rules.{Effect, mismatch, missing, follow, followMade, target, joinBounds}
 use Rattle.disjoint.specs.Fields.{Inside}
 use Rattle.constrain.specs.declared.Words.{Words}
 use Rattle.constrain.specs.declared.Pairs.{Pairs}
@@ -36,8 +36,8 @@ effectOf g p (N.Isolate c d) = followMade g c (target (p .sup) (makeNeg (g .entr
 effectOf g p (N.Functor f param body) =
     let m = newEntry (g .entries) lambda param body in
     followMade g f (newEntry (m .after) lambda (p .sub) (m .number))
-effectOf g p N.Upper = subVariable g (p .sub) (p .sup)
-effectOf g p N.Lower = supVariable g (p .sub) (p .sup)
+effectOf g p N.Upper = joinBounds g (p .sub) upper (p .sup)
+effectOf g p N.Lower = joinBounds g (p .sup) lower (p .sub)
 
 -- what is needed to apply it: its attrsets' records are there, and so many pairs; the side to be negated is an entry
 abbrev pub PairsRight : List Field → Pairs → Type 0

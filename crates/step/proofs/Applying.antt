@@ -3,14 +3,16 @@ use Prim.Native.Nat.{ℕ, _+_, _-_, _≤_, _<_}
 use native.Mathlib.Omega.{arith}
 use mathlib.Core.Path.{_≡_, refl, sym, ap, subst, _∙_}
 use mathlib.Core.List.{List, [], _∷_, _++_, reverse, append-nil}
-use mathlib.Core.Bool.{true, false}
+use mathlib.Core.Bool.{Bool, true, false, cond, or-true}
 use lib.ListN.{length, take}
-use lib.Dec.{T}
+use lib.Dec.{T, eqb}
+use borrow.Author.Tests.{eq-eqb, ne-eqb}
 use Rattle.instalments.specs.Machine.{Outcome, goes, enough}
-use Rattle.model.specs.Table.{Pair, _⊑_, Store, tableOf}
+use Rattle.model.specs.Format.{lower, upper}
+use Rattle.model.specs.Table.{Pair, _⊑_, Store, tableOf, graphOf, withGraph, withVisited}
 use Rattle.model.specs.Image.{word, pairWords, table}
 use Rattle.model.specs.Formed.{wellFormed, isEntry, pairRight}
-use Rattle.model.specs.Rules.{visit, isVisited, failing, outcomeOf, pairRule, rule}
+use Rattle.model.specs.Rules.{joinBounds, pairRule, isVisited, visit, failing, outcomeOf, rule}
 use Rattle.model.specs.Room.{fitting, roomFor}
 use Rattle.model.specs.declared.Failure.{Failure}
 use Rattle.model.specs.declared.Failure.the-variants as F
@@ -18,9 +20,9 @@ use Rattle.laws.specs.Good.{Sound}
 use Rattle.laws.proofs.Tests.{first, second, all-at, lt-of}
 use Rattle.laws.proofs.Formed.{sound-table}
 use Rattle.laws.proofs.StepSound.{fitting-enough}
-use Rattle.image.specs.Shown.{Shows, storeOf, entriesOf, pendingIn, pendingTo}
+use Rattle.image.specs.Shown.{Shows, storeOf, graphIn, entriesOf, pendingIn, pendingTo}
 use Rattle.image.specs.Records.{pairAt}
-use Rattle.constrain.specs.Next.{pairsIn, Comes}
+use Rattle.constrain.specs.Next.{pairsIn, effectOf, Comes}
 use Rattle.constrain.specs.declared.Next.{Next}
 use Rattle.constrain.specs.declared.Next.the-variants as N
 use Rattle.constrain.specs.declared.Pairs.{Pairs}
@@ -29,7 +31,22 @@ use Rattle.step.specs.declared.Step.{Step}
 use Rattle.step.specs.declared.Step.the-variants.{Went}
 use Rattle.step.proofs.Rooms.{before-length}
 use Rattle.step.proofs.Taking.{Answers, went}
-use Rattle.step.proofs.Visits.{rule-equal, rule-visited, rule-comes}
+
+module _ (p : Pair) (s : Store) where
+  -- "Equal numbers: nothing. Pair visited: nothing."
+  rule-equal : p .sub ≡ p .sup → rule s p ≡ goes s []
+  unfolding rule
+  rule-equal e = rw (eq-eqb (p .sub) (p .sup) e)
+
+  rule-visited : isVisited s p ≡ true → rule s p ≡ goes s []
+  unfolding rule
+  rule-visited e = rw e (ap (λ (t : Bool). cond t (goes s []) (outcomeOf (visit p s) p (pairRule (graphOf s) (p .sub) (p .sup)))) (or-true (eqb (p .sub) (p .sup))))
+
+  -- "Else record it, then": what the pair comes to
+  rule-comes : (next : Next) → (p .sub ≡ p .sup → ⊥) → isVisited s p ≡ false → effectOf (graphOf s) p next ≡ pairRule (graphOf s) (p .sub) (p .sup)
+      → rule s p ≡ outcomeFor s p next
+  unfolding rule outcomeFor
+  rule-comes next n v e = rw (ne-eqb (p .sub) (p .sup) n, v) (ap (outcomeOf (visit p s) p) (sym e))
 
 -- the outcome, case by case
 module _ (w : List ℕ) (p : Pair) (next : Next) (r : Step) (v : List ℕ) where
@@ -47,8 +64,19 @@ module _ (w : List ℕ) (p : Pair) (next : Next) (r : Step) (v : List ℕ) where
 
   pub applied-follow : (ps : Pairs) → next ≡ N.Follow ps → Answers w (goes (visit p (storeOf w)) (pairsIn (storeOf w .fields) ps)) r v
       → Answers w (outcomeFor (storeOf w) p next) r v
-  unfolding outcomeFor outcomeOf
+  unfolding outcomeFor outcomeOf withGraph visit withVisited
   applied-follow ps e k = applied-as (N.Follow ps) e k
+
+  -- a bound: on the upper side of sub, or the lower side of sup
+  pub applied-upper : next ≡ N.Upper → Answers w (outcomeOf (visit p (storeOf w)) p (joinBounds (graphIn w) (p .sub) upper (p .sup))) r v
+      → Answers w (outcomeFor (storeOf w) p next) r v
+  unfolding outcomeFor
+  applied-upper e k = applied-as N.Upper e k
+
+  pub applied-lower : next ≡ N.Lower → Answers w (outcomeOf (visit p (storeOf w)) p (joinBounds (graphIn w) (p .sup) lower (p .sub))) r v
+      → Answers w (outcomeFor (storeOf w) p next) r v
+  unfolding outcomeFor
+  applied-lower e k = applied-as N.Lower e k
 
 -- the words of the last pair
 pub last-sub : (ps : List Pair) (n x : ℕ) → n ≡ length ps → x ≡ word (pairWords (pairAt ps (n - 1))) 0 → x ≡ pairAt ps (length ps - 1) .sub
@@ -92,6 +120,6 @@ module _ (w : List ℕ) (h : T (wellFormed w)) (some : 0 < length (pendingIn w))
     step-visited e = at-last (goes (storeOf w) []) (rule-visited (sub ⊑ sup) (storeOf w) e) (taken-off v s)
 
   pub step-applied : (next : Next) (r : Step) (v : List ℕ) → (sub ≡ sup → ⊥) → isVisited (storeOf w) (sub ⊑ sup) ≡ false
-      → Comes (storeOf w) (sub ⊑ sup) next (pairRule (storeOf w) sub sup) → Answers w (outcomeFor (storeOf w) (sub ⊑ sup) next) r v
+      → Comes (graphIn w) (sub ⊑ sup) next (pairRule (graphIn w) sub sup) → Answers w (outcomeFor (storeOf w) (sub ⊑ sup) next) r v
       → Answers w (rule (storeOf w) (lastPair w)) r v
   step-applied next r v n e c k = at-last (outcomeFor (storeOf w) (sub ⊑ sup) next) (rule-comes (sub ⊑ sup) (storeOf w) next n e (c .means)) k

@@ -8,6 +8,7 @@ use lib.ListN.{length, drop, length-append, length-reverse, length-map}
 use lib.Dec.{eqb}
 use Rattle.model.specs.Table.{Bound, Pair, Table, tableOf}
 use Rattle.model.specs.Making.{boundsIn}
+use Rattle.model.specs.Rules.{boundPair}
 use Rattle.laws.proofs.Stores.{by-test}
 use Rattle.image.specs.Shown.{Shows, Shown, storeOf, boundsAll, pendingIn, pendingTo}
 use Rattle.image.specs.Records.{boundAt}
@@ -15,7 +16,6 @@ use Rattle.image.proofs.Laying.{seen, shown}
 use Rattle.image.proofs.Pending.{same-size}
 use Rattle.storage.specs.Bounds.{belongsTo}
 use Rattle.storage.proofs.Scan.{taken, left, none-left}
-use Rattle.step.specs.Put.{boundPair}
 
 -- of the records from i on, no more than of all
 fewer : (bs : List Bound) (i v side : ℕ) → length (boundsIn (drop i bs) v side) ≤ length (boundsIn bs v side)

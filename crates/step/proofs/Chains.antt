@@ -7,10 +7,10 @@ use mathlib.Core.Bool.{Bool, true, false}
 use lib.ListN.{length, take}
 use lib.Dec.{eqb}
 use borrow.Author.Tests.{eq-eqb, ne-eqb}
-use Rattle.model.specs.Format.{unbroken, variable, lower}
-use Rattle.model.specs.Table.{Bound, Pair, _⊑_, Table, tableOf, entryAt, is, isAt, isBroken, marked, withBounds}
+use Rattle.model.specs.Format.{unbroken, variable, lower, upper}
+use Rattle.model.specs.Table.{Bound, Pair, _⊑_, Table, tableOf, entryAt, is, isAt, isBroken, marked, withBounds, withEntries}
 use Rattle.model.specs.Making.{boundsIn, repeats, addBound, changed, withMark, markEntry}
-use Rattle.model.specs.Rules.{visit, breakOf, fillBreak, passMark}
+use Rattle.model.specs.Rules.{visit, breakOf, fillBreak, boundPair, passMark}
 use Rattle.model.specs.declared.Failure.{Failure}
 use Rattle.model.specs.declared.Dynamic.{Dynamic}
 use Rattle.model.specs.declared.Dynamic.the-variants.{Absent, Present}
@@ -19,7 +19,6 @@ use Rattle.image.specs.Records.{saysMark}
 use Rattle.image.proofs.Laying.{seen, shown}
 use Rattle.constrain.specs.Fields.{dynamicPairs}
 use Rattle.step.specs.Taken.{beforeLast}
-use Rattle.step.specs.Put.{boundPair}
 use Rattle.step.proofs.Rooms.{one-more}
 
 -- a pair visited, then the last one taken off pending
@@ -47,49 +46,57 @@ module _ (w : List ℕ) (f : Failure) (k : ℕ) (e : k ≡ storeOf w .broken .ki
 
 -- a bound, unless it repeats one
 module _ (w : List ℕ) (repeated : Bool) (v side b : ℕ) (e : repeated ≡ repeats (boundsIn (boundsAll w) v side) b) where
-  pub bound-kept : repeated ≡ true → Shown w → Shows w (tableOf (addBound v side b (storeOf w)) (pendingIn w))
-  unfolding addBound
+  pub bound-kept : repeated ≡ true → Shown w → Shows w (boundsTo w (addBound v side b (boundsAll w)))
+  unfolding addBound withBounds
   bound-kept t s = let z : repeats (boundsIn (boundsAll w) v side) b ≡ true = sym e ∙ t in rw z s
 
   module _ (t : repeated ≡ false) where
-    pub bound-push : length (addBound v side b (storeOf w) .bounds) ≤ storeOf w .capacities .bounds → length (boundsAll w) < storeOf w .capacities .bounds
-    unfolding addBound withBounds
+    pub bound-push : length (addBound v side b (boundsAll w)) ≤ storeOf w .capacities .bounds → length (boundsAll w) < storeOf w .capacities .bounds
+    unfolding addBound
     bound-push h =
         let x : Bound = record { variable = v; side = side; bound = b } in
         let z : repeats (boundsIn (boundsAll w) v side) b ≡ false = sym e ∙ t in
         let n : length (boundsAll w ++ (x ∷ [])) ≤ storeOf w .capacities .bounds = rw z at h in
         omega (arith, one-more (boundsAll w) x)
 
-    pub bound-put : (u : List ℕ) → Shows u (boundsTo w (boundsAll w ++ (record { variable = v; side = side; bound = b } ∷ []))) → Shows u (tableOf (addBound v side b (storeOf w)) (pendingIn w))
+    pub bound-put : (u : List ℕ) → Shows u (boundsTo w (boundsAll w ++ (record { variable = v; side = side; bound = b } ∷ []))) → Shows u (boundsTo w (addBound v side b (boundsAll w)))
     unfolding addBound
     bound-put u su = let z : repeats (boundsIn (boundsAll w) v side) b ≡ false = sym e ∙ t in rw z su
 
 -- a mark passed on
-module _ (w : List ℕ) (sub sup kind : ℕ) (e : kind ≡ entryAt (entriesOf w) sup .kind) where
-  pub no-variable : 0 < kind → Shown w → Shows w (tableOf (passMark sub sup (storeOf w)) (pendingIn w))
-  unfolding passMark isAt is
-  no-variable h s =
-      let z : eqb (entryAt (entriesOf w) sup .kind) variable ≡ false = ne-eqb (entryAt (entriesOf w) sup .kind) variable (λ (q : entryAt (entriesOf w) sup .kind ≡ variable). let y : ⊥ = omega arith in y) in
-      rw z s
+module _ (w : List ℕ) (v side b : ℕ) where
+  pub not-upper : (side ≡ upper → ⊥) → Shown w → Shows w (entriesTo w (passMark v side b (entriesOf w)))
+  unfolding passMark withEntries
+  not-upper n s = let z : eqb side upper ≡ false = ne-eqb side upper n in rw z s
 
-  module _ (h : kind ≡ 0) (flags : ℕ) (f : flags ≡ entryAt (entriesOf w) sub .flags) (says : Bool) (t : says ≡ saysMark flags) where
-    is-variable : eqb (entryAt (entriesOf w) sup .kind) variable ≡ true
-    is-variable = eq-eqb (entryAt (entriesOf w) sup .kind) variable (omega arith)
+  module _ (u : side ≡ upper) (kind : ℕ) (e : kind ≡ entryAt (entriesOf w) b .kind) where
+    is-upper : eqb side upper ≡ true
+    is-upper = eq-eqb side upper u
 
-    told : saysMark (entryAt (entriesOf w) sub .flags) ≡ says
-    told = ap saysMark (sym f) ∙ sym t
+    pub no-variable : 0 < kind → Shown w → Shows w (entriesTo w (passMark v side b (entriesOf w)))
+    unfolding passMark isAt is withEntries
+    no-variable h s =
+        let z : eqb (entryAt (entriesOf w) b .kind) variable ≡ false = ne-eqb (entryAt (entriesOf w) b .kind) variable (λ (q : entryAt (entriesOf w) b .kind ≡ variable). let y : ⊥ = omega arith in y) in
+        rw (is-upper, z) s
 
-    pub mark-none : says ≡ false → Shown w → Shows w (tableOf (passMark sub sup (storeOf w)) (pendingIn w))
-    unfolding passMark isAt is marked
-    mark-none n s =
-        let z : saysMark (entryAt (entriesOf w) sub .flags) ≡ false = told ∙ n in
-        rw (is-variable, z) s
+    module _ (h : kind ≡ 0) (flags : ℕ) (f : flags ≡ entryAt (entriesOf w) v .flags) (says : Bool) (t : says ≡ saysMark flags) where
+      is-variable : eqb (entryAt (entriesOf w) b .kind) variable ≡ true
+      is-variable = eq-eqb (entryAt (entriesOf w) b .kind) variable (omega arith)
 
-    pub mark-passed : says ≡ true → (u : List ℕ) → Shows u (entriesTo w (changed withMark (entriesOf w) sup)) → Shows u (tableOf (passMark sub sup (storeOf w)) (pendingIn w))
-    unfolding passMark isAt is marked markEntry
-    mark-passed m u su =
-        let z : saysMark (entryAt (entriesOf w) sub .flags) ≡ true = told ∙ m in
-        rw (is-variable, z) su
+      told : saysMark (entryAt (entriesOf w) v .flags) ≡ says
+      told = ap saysMark (sym f) ∙ sym t
+
+      pub mark-none : says ≡ false → Shown w → Shows w (entriesTo w (passMark v side b (entriesOf w)))
+      unfolding passMark isAt is marked withEntries
+      mark-none n s =
+          let z : saysMark (entryAt (entriesOf w) v .flags) ≡ false = told ∙ n in
+          rw (is-upper, is-variable, z) s
+
+      pub mark-passed : says ≡ true → (x : List ℕ) → Shows x (entriesTo w (changed withMark (entriesOf w) b)) → Shows x (entriesTo w (passMark v side b (entriesOf w)))
+      unfolding passMark isAt is marked markEntry
+      mark-passed m x sx =
+          let z : saysMark (entryAt (entriesOf w) v .flags) ≡ true = told ∙ m in
+          rw (is-upper, is-variable, z) sx
 
 -- a pair put by the side of a bound
 module _ (w u : List ℕ) (side b x : ℕ) where

@@ -7,7 +7,7 @@ use lib.ListN.{length, take}
 use lib.Dec.{T}
 use Rattle.instalments.specs.Machine.{Outcome, goes}
 use Rattle.model.specs.Format.{lambda, entriesRegion}
-use Rattle.model.specs.Table.{Entry, Pair, _⊑_, Store, Table, withEntries}
+use Rattle.model.specs.Table.{Entry, Pair, _⊑_, Store, Table, changedTo, withGraph, withEntries, withVisited}
 use Rattle.model.specs.Formed.{wellFormed}
 use Rattle.model.specs.Making.{spreadOf, putEntry, newEntry, undone}
 use Rattle.model.specs.Rules.{followMade, visit, outcomeOf}
@@ -58,7 +58,7 @@ module _ (es : List Entry) (param body sub : ℕ) where
 module _ (w : List ℕ) (sub sup f param body : ℕ) (good : T (wellFormed w)) (old cap : ℕ) (e : old ≡ length (entriesOf w)) (ce : cap ≡ storeOf w .capacities .entries) where
   outcome : outcomeFor (storeOf w) (sub ⊑ sup) (Functor f param body)
       ≡ goes (visit (sub ⊑ sup) (withEntries (withBoth (entriesOf w) param body sub) (storeOf w))) ((f ⊑ length (withLambda (entriesOf w) param body)) ∷ [])
-  unfolding outcomeFor outcomeOf followMade newEntry putEntry spreadOf
+  unfolding outcomeFor outcomeOf followMade changedTo withGraph withEntries visit withVisited newEntry putEntry spreadOf
   outcome = refl
 
   -- the old ones have room

@@ -8,7 +8,7 @@ use lib.ListN.{length, take}
 use lib.Dec.{T}
 use Rattle.instalments.specs.Machine.{Outcome, goes}
 use Rattle.model.specs.Format.{entriesRegion}
-use Rattle.model.specs.Table.{Entry, Pair, _⊑_, Store, withEntries}
+use Rattle.model.specs.Table.{Entry, Pair, _⊑_, Store, changedTo, withGraph, withEntries, withVisited}
 use Rattle.model.specs.Image.{table}
 use Rattle.model.specs.Formed.{wellFormed}
 use Rattle.model.specs.Making.{makeNeg, undone}
@@ -43,7 +43,7 @@ module _ (w : List ℕ) (sub sup c d : ℕ) (good : T (wellFormed w)) (below-sup
 
   outcome : outcomeFor (storeOf w) (sub ⊑ sup) (Isolate c d)
       ≡ goes (visit (sub ⊑ sup) (withEntries (target sup (makeNeg (entriesOf w) d) .after) (storeOf w))) ((c ⊑ target sup (makeNeg (entriesOf w) d) .number) ∷ [])
-  unfolding outcomeFor outcomeOf followMade
+  unfolding outcomeFor outcomeOf followMade changedTo withGraph withEntries visit withVisited
   outcome = refl
 
   pub isolate-asks : Negatable w d × (Good (storeOf w) × (Shallow (entriesOf w) × (sup < length (entriesOf w))))

@@ -1,4 +1,3 @@
-pub mod Visits
 pub mod Rooms
 pub mod Chains
 pub mod Taking

@@ -6,11 +6,11 @@ use mathlib.Core.List.{List, [], _∷_, _++_}
 use mathlib.Core.Bool.{Bool, true, false, _&&_, _||_}
 use lib.ListN.{length, length-append}
 use lib.Seq.{length-take-le}
-use lib.Dec.{T, ltb}
+use lib.Dec.{T, eqb, ltb}
 use borrow.Author.Tests.{lt-ltb, le-ltb, ltb-false}
 use Rattle.instalments.specs.Machine.{enough}
 use Rattle.model.specs.Lists.{any}
-use Rattle.model.specs.Format.{boundsRegion, visitedRegion, pendingRegion, spreadMost, variable}
+use Rattle.model.specs.Format.{boundsRegion, visitedRegion, pendingRegion, spreadMost, variable, upper}
 use Rattle.model.specs.Table.{Entry, Bound, Pair, _⊑_, Store, entryAt, isAt, isBroken, marked, withVisited, withBounds, withBroken, withEntries}
 use Rattle.model.specs.Formed.{wellFormed}
 use Rattle.model.specs.Making.{tooDeep, boundsIn, repeats, addBound, changed, withMark, markEntry}
@@ -102,7 +102,7 @@ break-room f u n = by-test (λ (s : Store). fitting s n ≡ fitting u n) (isBrok
 -- a bound, unless it repeats one
 module _ (w : List ℕ) (good : T (wellFormed w)) (repeated : Bool) (more : ℕ) where
   pub bound-repeats : repeated ≡ true → (r : RoomFound) → RoomFor w (storeOf w) more r → RoomForBound w repeated more r
-  unfolding addBound
+  unfolding addBound withBounds
   bound-repeats t r q v side b e p =
       let z : repeats (boundsIn (boundsAll w) v side) b ≡ true = sym e ∙ t in
       rw z (q p)
@@ -122,7 +122,7 @@ module _ (w : List ℕ) (good : T (wellFormed w)) (repeated : Bool) (more : ℕ)
         let k = sound-table w good .store .held in
         let z : repeats (boundsIn (boundsAll w) v side) b ≡ false = sym e ∙ t in
         let x : Bound = record { variable = v; side = side; bound = b } in
-        let y : fitting (visit p (storeOf w)) (length (beforeLast w) + more) ≡ fitting (visit p (addBound v side b (storeOf w))) (length (beforeLast w) + more) =
+        let y : fitting (visit p (storeOf w)) (length (beforeLast w) + more) ≡ fitting (visit p (withBounds (addBound v side b (boundsAll w)) (storeOf w))) (length (beforeLast w) + more) =
         rw (z, le-ltb _ _ (k .bounds), le-ltb (storeOf w .capacities .bounds) (length (boundsAll w ++ (x ∷ []))) (omega (arith, one-more (boundsAll w) x))) in
         q p ∙ y
 
@@ -133,11 +133,12 @@ mark-deep [] n = refl
 mark-deep (e ∷ es) zero = refl
 mark-deep (e ∷ es) (suc n) = ap (λ (t : Bool). ltb spreadMost (e .spread) || t) (mark-deep es n)
 
-marks-room : (sup : ℕ) (s : Store) (p : Pair) (n : ℕ) → fitting (visit p (markEntry sup s)) n ≡ fitting (visit p s) n
+marks-room : (b : ℕ) (s : Store) (p : Pair) (n : ℕ) → fitting (visit p (withEntries (markEntry b (s .entries)) s)) n ≡ fitting (visit p s) n
 unfolding fitting visit withVisited markEntry withEntries
-marks-room sup s p n = rw (changed-length withMark (s .entries) sup, mark-deep (s .entries) sup)
+marks-room b s p n = rw (changed-length withMark (s .entries) b, mark-deep (s .entries) b)
 
-pub pass-room : (sub sup : ℕ) (s : Store) (p : Pair) (n : ℕ) → fitting (visit p (passMark sub sup s)) n ≡ fitting (visit p s) n
-unfolding passMark
-pass-room sub sup s p n =
-    by-test (λ (u : Store). fitting (visit p u) n ≡ fitting (visit p s) n) (isAt (s .entries) variable sup && marked (entryAt (s .entries) sub)) (λ h. marks-room sup s p n) (λ h. refl)
+pub pass-room : (v side b : ℕ) (s : Store) (p : Pair) (n : ℕ) → fitting (visit p (withEntries (passMark v side b (s .entries)) s)) n ≡ fitting (visit p s) n
+unfolding passMark withEntries
+pass-room v side b s p n =
+    by-test (λ (es : List Entry). fitting (visit p (withEntries es s)) n ≡ fitting (visit p s) n) (eqb side upper && isAt (s .entries) variable b && marked (entryAt (s .entries) v))
+    (λ h. marks-room b s p n) (λ h. refl)

@@ -5,10 +5,10 @@ use mathlib.Core.List.{List, [], _++_, reverse}
 use mathlib.Core.Bool.{Bool}
 use lib.ListN.{length, take}
 use Rattle.instalments.specs.Machine.{Outcome, fails, goes, Room, enough, lacks}
-use Rattle.model.specs.Table.{Pair, Store, tableOf}
+use Rattle.model.specs.Table.{Pair, Store, tableOf, graphOf, withBounds}
 use Rattle.model.specs.Image.{words}
 use Rattle.model.specs.Making.{boundsIn, repeats, addBound}
-use Rattle.model.specs.Rules.{Effect, mismatch, missing, follow, visit, outcomeOf}
+use Rattle.model.specs.Rules.{visit, outcomeOf}
 use Rattle.model.specs.Room.{fitting, roomFor}
 use Rattle.model.specs.declared.Failure.{Failure}
 use Rattle.model.specs.declared.Refusal.{Refusal}
@@ -38,7 +38,7 @@ RoomFor w s more r = (p : Pair) → roomIn r ≡ fitting (visit p s) (length (be
 
 -- the same where it adds a bound, unless that repeats one
 abbrev pub RoomForBound : List ℕ → Bool → ℕ → RoomFound → Type 0
-RoomForBound w repeated more r = (v side b : ℕ) → repeated ≡ repeats (boundsIn (boundsAll w) v side) b → RoomFor w (addBound v side b (storeOf w)) more r
+RoomForBound w repeated more r = (v side b : ℕ) → repeated ≡ repeats (boundsIn (boundsAll w) v side) b → RoomFor w (withBounds (addBound v side b (boundsAll w)) (storeOf w)) more r
 
 -- what it answers, and the words after
 pub record Taken : Type 0 where
@@ -54,12 +54,6 @@ takenBy enough w before (goes u qs) = record { says = Went; words = words (table
 abbrev pub taken : List ℕ → Outcome Store Pair Failure → Taken
 taken w o = takenBy (roomFor (length (beforeLast w)) o) w (beforeLast w) o
 
--- the pair is recorded as visited besides
-abbrev pub visiting : Pair → Effect → Effect
-visiting p mismatch = mismatch
-visiting p (missing name) = missing name
-visiting p (follow u qs) = follow (visit p u) qs
-
 -- the outcome of what the pair comes to
 unfoldable pub outcomeFor : Store → Pair → Next → Outcome Store Pair Failure
-outcomeFor s p next = outcomeOf (visit p s) p (visiting p (effectOf s p next))
+outcomeFor s p next = outcomeOf (visit p s) p (effectOf (graphOf s) p next)

@@ -14,22 +14,23 @@ ghost use Prim.Native.Nat.{_+_, _≤_, _<_};
 ghost use lib.ListN.{length, take};
 ghost use lib.Dec.{T};
 ghost use Rattle.instalments.specs.Machine.{goes};
+ghost use Rattle.model.specs.Format.{upper};
 ghost use Rattle.model.specs.Table.{_⊑_, tableOf};
 ghost use Rattle.model.specs.Image.{table};
 ghost use Rattle.model.specs.Formed.{wellFormed};
 ghost use Rattle.model.specs.Making.{tooDeep, boundsIn, repeats, addBound};
-ghost use Rattle.model.specs.Rules.{rule, visit, failing, fillBreak, passMark};
+ghost use Rattle.model.specs.Rules.{rule, visit, failing, fillBreak, outcomeOf, boundPair, passMark, joinBounds};
 ghost use Rattle.laws.specs.Good.{Good, Shallow};
 ghost use Rattle.image.specs.Laid.{Laid};
-ghost use Rattle.image.specs.Shown.{Shows, Shown, storeOf, entriesOf, fieldsIn, boundsAll, visitedIn, pendingIn, pendingTo};
+ghost use Rattle.image.specs.Shown.{Shows, Shown, storeOf, graphIn, entriesOf, fieldsIn, boundsAll, visitedIn, pendingIn, entriesTo, boundsTo, pendingTo};
 ghost use Rattle.disjoint.specs.Fields.{Inside};
 ghost use Rattle.type_table.specs.Made.{Negatable};
 ghost use Rattle.constrain.specs.Fields.{fieldPairs, dynamicPairs};
 ghost use Rattle.constrain.specs.Next.{pairsIn, PairsRight, Applicable};
-ghost use Rattle.constrain.specs.declared.Next.the-variants.{Isolate, Functor, Upper, Lower};
+ghost use Rattle.constrain.specs.declared.Next.the-variants.{Isolate, Functor};
 ghost use Rattle.step.specs.Taken.{beforeLast, lastPair, taken, outcomeFor, RoomFor, RoomForBound};
 ghost use Rattle.step.specs.Made.{TargetIn, settled};
-ghost use Rattle.step.specs.Put.{fieldPair, boundPair, countIn};
+ghost use Rattle.step.specs.Put.{fieldPair, countIn};
 
 // What a step comes to.
 pub enum Step {
@@ -313,26 +314,29 @@ fn room_for_bound(image: &[u32], repeated: bool, more: u32) -> Room
 fn add_bound(image: &mut [u32], repeated: bool, v: u32, side: u32, b: u32)
     requires { ⌜ Shown (now image) ⌝ }
     requires { ⌜ repeated ≡ repeats (boundsIn (boundsAll (now image)) v side) b ⌝ }
-    requires { ⌜ length (addBound v side b (storeOf (now image)) .bounds) ≤ storeOf (now image) .capacities .bounds ⌝ }
-    ensures { λ _. ⌜ Shows (now (image .exit)) (tableOf (addBound v side b (storeOf (now (image .entry)))) (pendingIn (now (image .entry)))) ⌝ }
+    requires { ⌜ length (addBound v side b (boundsAll (now image))) ≤ storeOf (now image) .capacities .bounds ⌝ }
+    ensures { λ _. ⌜ Shows (now (image .exit)) (boundsTo (now (image .entry)) (addBound v side b (boundsAll (now (image .entry))))) ⌝ }
 {
     if !repeated {
         image::push_bound(image, v, side, b);
     }
 }
 
-// Marks sup if it is a variable and sub is marked.
-fn pass_mark(image: &mut [u32], sub: u32, sup: u32)
+// Marks b, among the upper bounds of v, if it is a variable and v is marked.
+fn pass_mark(image: &mut [u32], v: u32, side: u32, b: u32)
     requires { ⌜ Shown (now image) ⌝ }
-    requires { ⌜ sub < length (entriesOf (now image)) ⌝ }
-    requires { ⌜ sup < length (entriesOf (now image)) ⌝ }
-    ensures { λ _. ⌜ Shows (now (image .exit)) (tableOf (passMark sub sup (storeOf (now (image .entry)))) (pendingIn (now (image .entry)))) ⌝ }
+    requires { ⌜ v < length (entriesOf (now image)) ⌝ }
+    requires { ⌜ b < length (entriesOf (now image)) ⌝ }
+    ensures { λ _. ⌜ Shows (now (image .exit)) (entriesTo (now (image .entry)) (passMark v side b (entriesOf (now (image .entry))))) ⌝ }
 {
-    if image::entry_word(image, sup, image::KIND_WORD) != image::VARIABLE {
+    if side != image::UPPER {
         return;
     }
-    if image::says_mark(image::entry_word(image, sub, image::FLAGS_WORD)) {
-        image::put_mark(image, sup);
+    if image::entry_word(image, b, image::KIND_WORD) != image::VARIABLE {
+        return;
+    }
+    if image::says_mark(image::entry_word(image, v, image::FLAGS_WORD)) {
+        image::put_mark(image, b);
     }
 }
 
@@ -365,48 +369,28 @@ fn put_bound_pairs(image: &mut [u32], v: u32, side: u32, b: u32)
     }
 }
 
-// Sub, a variable: sup joins its upper bounds.
-fn add_upper_bound(image: &mut [u32], sub: u32, sup: u32) -> Step
+// Goes on with b among the bounds of v on a side, and the pairs of b with v's bounds on the other.
+fn join_bounds(image: &mut [u32], sub: u32, sup: u32, v: u32, side: u32, b: u32) -> Step
     requires { ⌜ T (wellFormed (now image)) ⌝ }
     requires { ⌜ 0 < length (pendingIn (now image)) ⌝ }
-    requires { ⌜ sub < length (entriesOf (now image)) ⌝ }
-    requires { ⌜ sup < length (entriesOf (now image)) ⌝ }
-    ensures { λ r. ⌜ r ≡ taken (now (image .entry)) (outcomeFor (storeOf (now (image .entry))) (sub ⊑ sup) Upper) .says ⌝ }
-    ensures { λ _. ⌜ now (image .exit) ≡ taken (now (image .entry)) (outcomeFor (storeOf (now (image .entry))) (sub ⊑ sup) Upper) .words ⌝ }
+    requires { ⌜ v < length (entriesOf (now image)) ⌝ }
+    requires { ⌜ b < length (entriesOf (now image)) ⌝ }
+    requires { ⌜ side ≤ upper ⌝ }
+    ensures { λ r. ⌜ r ≡ taken (now (image .entry)) (outcomeOf (visit (sub ⊑ sup) (storeOf (now (image .entry)))) (sub ⊑ sup) (joinBounds (graphIn (now (image .entry))) v side b)) .says ⌝ }
+    ensures { λ _. ⌜ now (image .exit) ≡ taken (now (image .entry)) (outcomeOf (visit (sub ⊑ sup) (storeOf (now (image .entry)))) (sub ⊑ sup) (joinBounds (graphIn (now (image .entry))) v side b)) .words ⌝ }
 {
+    let other = image::UPPER - side;
     let n = image::bounds_count(image);
-    let repeated = storage::repeats_bound(image, n, sub, image::UPPER, sup);
-    let more = storage::count_bounds(image, n, sub, image::LOWER);
+    let repeated = storage::repeats_bound(image, n, v, side, b);
+    let more = storage::count_bounds(image, n, v, other);
     let room = room_for_bound(image, repeated, more);
     if let Room::Lacks(r) = room {
         return Step::Refused(r);
     }
-    add_bound(image, repeated, sub, image::UPPER, sup);
-    pass_mark(image, sub, sup);
+    add_bound(image, repeated, v, side, b);
+    pass_mark(image, v, side, b);
     advance(image, sub, sup);
-    put_bound_pairs(image, sub, image::LOWER, sup);
-    Step::Went
-}
-
-// Sup alone a variable: sub joins its lower bounds.
-fn add_lower_bound(image: &mut [u32], sub: u32, sup: u32) -> Step
-    requires { ⌜ T (wellFormed (now image)) ⌝ }
-    requires { ⌜ 0 < length (pendingIn (now image)) ⌝ }
-    requires { ⌜ sub < length (entriesOf (now image)) ⌝ }
-    requires { ⌜ sup < length (entriesOf (now image)) ⌝ }
-    ensures { λ r. ⌜ r ≡ taken (now (image .entry)) (outcomeFor (storeOf (now (image .entry))) (sub ⊑ sup) Lower) .says ⌝ }
-    ensures { λ _. ⌜ now (image .exit) ≡ taken (now (image .entry)) (outcomeFor (storeOf (now (image .entry))) (sub ⊑ sup) Lower) .words ⌝ }
-{
-    let n = image::bounds_count(image);
-    let repeated = storage::repeats_bound(image, n, sup, image::LOWER, sub);
-    let more = storage::count_bounds(image, n, sup, image::UPPER);
-    let room = room_for_bound(image, repeated, more);
-    if let Room::Lacks(r) = room {
-        return Step::Refused(r);
-    }
-    add_bound(image, repeated, sup, image::LOWER, sub);
-    advance(image, sub, sup);
-    put_bound_pairs(image, sup, image::UPPER, sub);
+    put_bound_pairs(image, v, other, b);
     Step::Went
 }
 
@@ -416,7 +400,7 @@ fn apply(image: &mut [u32], sub: u32, sup: u32, next: Next) -> Step
     requires { ⌜ 0 < length (pendingIn (now image)) ⌝ }
     requires { ⌜ sub < length (entriesOf (now image)) ⌝ }
     requires { ⌜ sup < length (entriesOf (now image)) ⌝ }
-    requires { ⌜ Applicable (storeOf (now image)) next ⌝ }
+    requires { ⌜ Applicable (graphIn (now image)) next ⌝ }
     ensures { λ r. ⌜ r ≡ taken (now (image .entry)) (outcomeFor (storeOf (now (image .entry))) (sub ⊑ sup) next) .says ⌝ }
     ensures { λ _. ⌜ now (image .exit) ≡ taken (now (image .entry)) (outcomeFor (storeOf (now (image .entry))) (sub ⊑ sup) next) .words ⌝ }
 {
@@ -426,8 +410,8 @@ fn apply(image: &mut [u32], sub: u32, sup: u32, next: Next) -> Step
         Next::Follow(pairs) => follow(image, sub, sup, pairs),
         Next::Isolate { chosen, other } => isolate(image, sub, sup, chosen, other),
         Next::Functor { field, param, body } => functor(image, sub, sup, field, param, body),
-        Next::Upper => add_upper_bound(image, sub, sup),
-        Next::Lower => add_lower_bound(image, sub, sup),
+        Next::Upper => join_bounds(image, sub, sup, sub, image::UPPER, sup),
+        Next::Lower => join_bounds(image, sub, sup, sup, image::LOWER, sub),
     }
 }
 

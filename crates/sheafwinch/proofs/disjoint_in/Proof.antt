@@ -9,7 +9,7 @@ use Rattle.model.specs.Shapes as shapes
 use Rattle.model.specs.Calls.{readDisjointTurn, replyOf}
 use Rattle.model.specs.Told.{toldDisjointness}
 use Rattle.model.specs.declared.Disjointness.the-variants as J
-use Rattle.image.specs.Shown.{storeOf, entriesOf}
+use Rattle.image.specs.Shown.{graphIn, entriesOf}
 use Rattle.image.proofs.Laying.{formed-laid}
 use Rattle.laws.proofs.Formed.{sound-table}
 use Rattle.sheafwinch.proofs.Turning.{misnumbered, numbered-says, two-entries, first-no-entry, second-no-entry}
@@ -56,7 +56,7 @@ unfolding readDisjointTurn replyOf
 returns-3 c =
     let s = c .before .before .before .before .before .before .before in
     let w = now (s .args .image) in
-    let e : shapes.disjoint (storeOf w) (entryAt (entriesOf w) (s .args .a)) (entryAt (entriesOf w) (s .args .b)) ≡ true = sym (c .before .disjoint .ensures) ∙ c .if3 .taken in
+    let e : shapes.disjoint (graphIn w) (entryAt (entriesOf w) (s .args .a)) (entryAt (entriesOf w) (s .args .b)) ≡ true = sym (c .before .disjoint .ensures) ∙ c .if3 .taken in
     numbered-says w _ (isEntry (entriesOf w) (s .args .a) && isEntry (entriesOf w) (s .args .b))
     (two-entries (entriesOf w) (s .args .a) (s .args .b) (omega (arith, c .before .before .before .before .before .entries-count .ensures)) (omega (arith, c .before .before .before .entries-count2 .ensures)))
     (rw e)
@@ -67,7 +67,7 @@ unfolding readDisjointTurn replyOf
 returns-4 c =
     let s = c .before .before .before .before .before .before .before in
     let w = now (s .args .image) in
-    let e : shapes.disjoint (storeOf w) (entryAt (entriesOf w) (s .args .a)) (entryAt (entriesOf w) (s .args .b)) ≡ false = sym (c .before .disjoint .ensures) ∙ c .if3 .left in
+    let e : shapes.disjoint (graphIn w) (entryAt (entriesOf w) (s .args .a)) (entryAt (entriesOf w) (s .args .b)) ≡ false = sym (c .before .disjoint .ensures) ∙ c .if3 .left in
     numbered-says w _ (isEntry (entriesOf w) (s .args .a) && isEntry (entriesOf w) (s .args .b))
     (two-entries (entriesOf w) (s .args .a) (s .args .b) (omega (arith, c .before .before .before .before .before .entries-count .ensures)) (omega (arith, c .before .before .before .entries-count2 .ensures)))
     (rw e)

@@ -1,20 +1,20 @@
 -- What the pair comes to, case by case: proofs/Applying.antt.
+use native.Mathlib.Omega.{arith}
 use mathlib.Core.Path.{subst}
 use denote.Ref.{now}
 use borrow.Author.Needs.{needs}
-use Rattle.image.specs.Shown.{storeOf}
+use Rattle.image.specs.Shown.{graphIn}
 use Rattle.constrain.specs.Next.{Applicable}
-use Rattle.step.proofs.Applying.{applied-as, applied-mismatch, applied-missing, applied-follow}
+use Rattle.step.proofs.Applying.{applied-as, applied-mismatch, applied-missing, applied-follow, applied-upper, applied-lower}
 use Rattle.step.proofs.apply.Statement.{statement}
 use Rattle.step.proofs.apply.Tie as tie
 use Rattle.step.proofs.apply.Reads as reads
 use Rattle.step.proofs.apply.Lts as lts
-use Rattle.step.proofs.add_lower_bound.Reads as add-lower-bound-reads
-use Rattle.step.proofs.add_upper_bound.Reads as add-upper-bound-reads
 use Rattle.step.proofs.fail.Reads as fail-reads
 use Rattle.step.proofs.follow.Reads as follow-reads
 use Rattle.step.proofs.functor.Reads as functor-reads
 use Rattle.step.proofs.isolate.Reads as isolate-reads
+use Rattle.step.proofs.join_bounds.Reads as join-bounds-reads
 
 -- src/lib.rt:460:32
 enum-told : tie.Need-enum-told
@@ -38,7 +38,7 @@ enum-known-next-2 c = search needs
 
 -- src/lib.rt:467:32
 follow-requires : tie.Need-follow-requires
-follow-requires c κs = (c .before .before .before .before .before .pre .0, (c .before .before .before .before .before .pre .1 .0, subst (Applicable (storeOf (now (c .before .before .before .before .before .args .image)))) (c .before .before .next2 .given .1) (c .before .before .before .before .before .pre .1 .1 .1 .1)))
+follow-requires c κs = (c .before .before .before .before .before .pre .0, (c .before .before .before .before .before .pre .1 .0, subst (Applicable (graphIn (now (c .before .before .before .before .before .args .image)))) (c .before .before .next2 .given .1) (c .before .before .before .before .before .pre .1 .1 .1 .1)))
 
 -- src/lib.rt:468:25
 enum-known-next-3 : tie.Need-enum-known-next-3
@@ -46,7 +46,7 @@ enum-known-next-3 c = search needs
 
 -- src/lib.rt:468:44
 isolate-requires : tie.Need-isolate-requires
-isolate-requires c κs = (c .before .before .before .before .before .pre .0, (c .before .before .before .before .before .pre .1 .0, (c .before .before .before .before .before .pre .1 .1 .1 .0, subst (Applicable (storeOf (now (c .before .before .before .before .before .args .image)))) (c .before .before .next3 .given .1) (c .before .before .before .before .before .pre .1 .1 .1 .1))))
+isolate-requires c κs = (c .before .before .before .before .before .pre .0, (c .before .before .before .before .before .pre .1 .0, (c .before .before .before .before .before .pre .1 .1 .1 .0, subst (Applicable (graphIn (now (c .before .before .before .before .before .args .image)))) (c .before .before .next3 .given .1) (c .before .before .before .before .before .pre .1 .1 .1 .1))))
 
 -- src/lib.rt:469:25
 enum-known-next-4 : tie.Need-enum-known-next-4
@@ -61,16 +61,16 @@ enum-told-2 : tie.Need-enum-told-2
 enum-told-2 c = search needs
 
 -- src/lib.rt:470:24
-add-upper-bound-requires : tie.Need-add-upper-bound-requires
-add-upper-bound-requires c κs = (c .before .before .before .before .pre .0, (c .before .before .before .before .pre .1 .0, (c .before .before .before .before .pre .1 .1 .0, c .before .before .before .before .pre .1 .1 .1 .0)))
+join-bounds-requires : tie.Need-join-bounds-requires
+join-bounds-requires c κs = let p = c .before .before .before .before .pre in (p .0, (p .1 .0, (p .1 .1 .0, (p .1 .1 .1 .0, omega arith))))
 
 -- src/lib.rt:471:40
 enum-told-3 : tie.Need-enum-told-3
 enum-told-3 c = search needs
 
 -- src/lib.rt:471:24
-add-lower-bound-requires : tie.Need-add-lower-bound-requires
-add-lower-bound-requires c κs = (c .before .before .before .before .pre .0, (c .before .before .before .before .pre .1 .0, (c .before .before .before .before .pre .1 .1 .0, c .before .before .before .before .pre .1 .1 .1 .0)))
+join-bounds-requires-2 : tie.Need-join-bounds-requires-2
+join-bounds-requires-2 c κs = let p = c .before .before .before .before .pre in (p .0, (p .1 .0, (p .1 .1 .1 .0, (p .1 .1 .0, omega arith))))
 
 -- src/lib.rt:450:1
 same-length : tie.Need-same-length
@@ -118,7 +118,7 @@ same-length-6 c = search needs
 
 -- src/lib.rt:450:1
 returns-6 : tie.Need-returns-6
-returns-6 c = applied-as _ _ _ _ _ _ (c .before .before .before .before .enum-told2 .given .1) (c .before .before .add-upper-bound .ensures)
+returns-6 c = applied-upper _ _ _ _ _ (c .before .before .before .before .enum-told2 .given .1) (c .before .before .join-bounds .ensures)
 
 -- src/lib.rt:450:1
 same-length-7 : tie.Need-same-length-7
@@ -126,7 +126,7 @@ same-length-7 c = search needs
 
 -- src/lib.rt:450:1
 returns-7 : tie.Need-returns-7
-returns-7 c = applied-as _ _ _ _ _ _ (c .before .before .before .before .enum-told3 .given .1) (c .before .before .add-lower-bound .ensures)
+returns-7 c = applied-lower _ _ _ _ _ (c .before .before .before .before .enum-told3 .given .1) (c .before .before .join-bounds2 .ensures)
 
 pub apply-spec : {M : Type 1} → statement M
 apply-spec =
@@ -143,9 +143,9 @@ apply-spec =
     enum-known-next-4
     functor-requires
     enum-told-2
-    add-upper-bound-requires
+    join-bounds-requires
     enum-told-3
-    add-lower-bound-requires
+    join-bounds-requires-2
     same-length
     returns
     same-length-2
