@@ -28,6 +28,8 @@
  * found, save that work refused by 5 or 6 keeps its earlier steps, tells their number, and leaves the question asked.
  *
  * Flags. Where a call takes a flag, 0 is no and any other word is yes.
+ *
+ * Stack. That a call ends is proved; how much stack it takes is measured: see SHEAFWINCH_STACK.
  */
 #ifndef SHEAFWINCH_H
 #define SHEAFWINCH_H
@@ -153,6 +155,13 @@ typedef struct sheafwinch_capacities {
 #define SHEAFWINCH_WORDS(entries, fields, bounds, visited, pending, equals) \
     ((size_t)27 + (size_t)7 * (entries) + (size_t)3 * (fields) + (size_t)3 * (bounds) + (size_t)2 * (visited) \
      + (size_t)2 * (pending) + (size_t)2 * (equals))
+
+/* Bytes of stack that a thread should have when it calls, enough for any call, image and argument; make_neg and work take most, where an
+ * entry's spread is near 1,024. Not proved: tools/stack computes what each call takes at the worst from the frames in the archive (x86-64,
+ * as the kit rattle-kit-5b compiles it) and from how deep the spread limit lets a call nest, and runs the worst cases that we know on a
+ * painted stack. The figure is at least one and a half times the worst of both, so that a thread of just this size has room for
+ * what the C library takes of it; the gate holds the archive to that, and runs the cases on threads of this size. */
+#define SHEAFWINCH_STACK 131072
 
 /* Whether the words are a well formed image. */
 bool sheafwinch_check(const uint32_t *image, size_t words);

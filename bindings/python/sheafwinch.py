@@ -19,6 +19,11 @@ from enum import IntEnum
 from typing import Iterable, Optional, Union as Either
 
 
+# Bytes of stack that a thread should have free when it calls: SHEAFWINCH_STACK of the header, which says how it was found.
+# Measured, not proved.
+STACK_BYTES = 131072
+
+
 class Primitive(IntEnum):
     """A primitive."""
 

@@ -55,6 +55,10 @@ macro_rules! numbered {
     };
 }
 
+/// Bytes of stack that a thread should have free when it calls: `SHEAFWINCH_STACK` of the header, which says how it was found. Measured,
+/// not proved.
+pub const STACK_BYTES: usize = 131_072;
+
 numbered! {
     /// A primitive.
     Primitive {

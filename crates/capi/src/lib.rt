@@ -7,7 +7,7 @@ use model::Dynamic;
 use model::Reply;
 ghost use mathlib.Core.Path.{_≡_};
 ghost use Rattle.model.specs.Formed.{wellFormed};
-ghost use Rattle.model.specs.Calls.{perform, makesVariable, makesPrimitive, makesList, makesLambda, makesAttrset, makesNamed, makesNeg, makesInter, makesUnion, marks, putsBound, enters, exits, setsLevel, asks, asksEqual, works, abandons, readsEntry, readsRecord, readsDisjoint};
+ghost use Rattle.model.specs.Calls.{perform, makesVariable, makesPrimitive, makesList, makesLambda, makesAttrset, makesNamed, makesNeg, makesInter, makesUnion, marks, putsBound, enters, exits, setsLevel, under, bothWays, asks, works, abandons, readsEntry, readsRecord, readsDisjoint};
 ghost use Rattle.model.specs.Calls.{start as startOf};
 ghost use Rattle.names.specs.Names.{checkNames, checkName, countNames, compareAt, findName, placeName};
 ghost use Rattle.operators.specs.Operators.{toldResolved, resolved, fromLeft, atOnce};
@@ -249,8 +249,8 @@ pub extern "C" fn sheafwinch_set_level(image: &mut [u32], variable: u32, level: 
 // Asks whether sub fits under sup.
 #[no_mangle]
 pub extern "C" fn sheafwinch_ask(image: &mut [u32], held: u32, sub: u32, sup: u32) -> Answer
-    ensures { λ r. ⌜ r ≡ answerOf 0 (perform (asks (flagOf held) sub sup) (now (image .entry)) .says) ⌝ }
-    ensures { λ _. ⌜ now (image .exit) ≡ perform (asks (flagOf held) sub sup) (now (image .entry)) .words ⌝ }
+    ensures { λ r. ⌜ r ≡ answerOf 0 (perform (asks (under (flagOf held) sub sup)) (now (image .entry)) .says) ⌝ }
+    ensures { λ _. ⌜ now (image .exit) ≡ perform (asks (under (flagOf held) sub sup)) (now (image .entry)) .words ⌝ }
 {
     let is_held = flag(held);
     let answer = sheafwinch::ask(image, is_held, sub, sup);
@@ -265,8 +265,8 @@ pub extern "C" fn sheafwinch_ask_equal(
     left: u32,
     right: u32,
 ) -> Answer
-    ensures { λ r. ⌜ r ≡ answerOf 0 (perform (asksEqual (flagOf held) left right) (now (image .entry)) .says) ⌝ }
-    ensures { λ _. ⌜ now (image .exit) ≡ perform (asksEqual (flagOf held) left right) (now (image .entry)) .words ⌝ }
+    ensures { λ r. ⌜ r ≡ answerOf 0 (perform (asks (bothWays (flagOf held) left right)) (now (image .entry)) .says) ⌝ }
+    ensures { λ _. ⌜ now (image .exit) ≡ perform (asks (bothWays (flagOf held) left right)) (now (image .entry)) .words ⌝ }
 {
     let is_held = flag(held);
     let answer = sheafwinch::ask_equal(image, is_held, left, right);

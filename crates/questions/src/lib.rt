@@ -1,32 +1,65 @@
-// Questions in a well formed image: ask, ask equal, work in instalments, abandon. Each is what the model's call does where the image
+// Questions in a well formed image: ask, work in instalments, abandon. Each is what the model's call does where the image
 // is well formed; crate `sheafwinch` has the calls.
 use model::Answer;
 use model::Instalment;
+use model::Question;
 use model::Refusal;
 use model::Reply;
 use step::Step;
 ghost use mathlib.Core.Path.{_≡_};
-ghost use Prim.Native.Nat.{_≤_};
+ghost use Prim.Native.Nat.{_+_, _≤_};
+ghost use mathlib.Core.List.{_++_};
 ghost use lib.ListN.{length};
 ghost use lib.Dec.{T};
 ghost use Rattle.model.specs.Table.{tableOf};
 ghost use Rattle.model.specs.Image.{table};
 ghost use Rattle.model.specs.Formed.{wellFormed};
-ghost use Rattle.model.specs.Calls.{replyOf, equalled, askTurn, askEqualTurn, workTurn, abandonTurn};
+ghost use Rattle.model.specs.Calls.{replyOf, isRecorded, recorded, pairsOf, askTurn, workTurn, abandonTurn};
 ghost use Rattle.model.specs.Told.{toldReply, toldAnswer};
-ghost use Rattle.image.specs.Shown.{Shows, Shown, storeOf, pendingIn};
-ghost use Rattle.questions.specs.Asking.{Fitness, worked};
+ghost use Rattle.image.specs.Shown.{Shows, Shown, storeOf, pendingIn, pendingTo};
+ghost use Rattle.questions.specs.Asking.{Roomy, Fitness, worked};
 
-// The refusals that both questions have, in 01's order, or none.
-fn fitness(image: &[u32], held: bool, a: u32, b: u32) -> Reply
+// Whether a question is recorded in equals.
+fn is_recorded(q: Question) -> bool
+    ensures { λ r. ⌜ r ≡ isRecorded q ⌝ }
+{
+    q.equal & (q.left != q.right)
+}
+
+// How many pairs a question starts with.
+fn pairs_of(q: Question) -> u32
+    ensures { λ r. ⌜ r ≡ length (pairsOf q) ⌝ }
+{
+    if q.equal { 2 } else { 1 }
+}
+
+// The region that lacks a record for a question, or none.
+fn room_for(image: &[u32], q: Question) -> Reply
     requires { ⌜ T (wellFormed (now image)) ⌝ }
-    ensures { λ r. ⌜ Fitness (now (image .entry)) held a b r ⌝ }
+    ensures { λ r. ⌜ Roomy (now (image .entry)) q r ⌝ }
+{
+    if image::pending_capacity(image) < pairs_of(q) {
+        return Reply::Refused(Refusal::NoRoom(image::PENDING));
+    }
+    if !is_recorded(q) {
+        return Reply::Done;
+    }
+    if image::equals_capacity(image) <= image::equals_count(image) {
+        return Reply::Refused(Refusal::NoRoom(image::EQUALS));
+    }
+    Reply::Done
+}
+
+// A question's refusal, the first in 01's order, or none.
+fn fitness(image: &[u32], q: Question) -> Reply
+    requires { ⌜ T (wellFormed (now image)) ⌝ }
+    ensures { λ r. ⌜ Fitness (now (image .entry)) q r ⌝ }
 {
     if image::is_asked(image) {
         return Reply::Refused(Refusal::Busy);
     }
     let kind = image::break_kind(image);
-    if held & (kind != image::UNBROKEN) {
+    if q.held & (kind != image::UNBROKEN) {
         let sub = image::break_sub(image);
         let sup = image::break_sup(image);
         let name = image::break_name(image);
@@ -37,64 +70,53 @@ fn fitness(image: &[u32], held: bool, a: u32, b: u32) -> Reply
             name,
         });
     }
-    if image::entries_count(image) <= a {
+    if image::entries_count(image) <= q.left {
         return Reply::Refused(Refusal::BadNumber);
     }
-    if image::entries_count(image) <= b {
+    if image::entries_count(image) <= q.right {
         return Reply::Refused(Refusal::BadNumber);
     }
-    Reply::Done
+    room_for(image, q)
 }
 
-// Asks whether sub fits under sup.
-pub fn ask(image: &mut [u32], held: bool, sub: u32, sup: u32) -> Reply
-    requires { ⌜ T (wellFormed (now image)) ⌝ }
-    ensures { λ r. ⌜ toldReply r ≡ replyOf (now (image .entry)) (askTurn held sub sup (table (now (image .entry)))) .says ⌝ }
-    ensures { λ _. ⌜ now (image .exit) ≡ replyOf (now (image .entry)) (askTurn held sub sup (table (now (image .entry)))) .words ⌝ }
-{
-    let fit = fitness(image, held, sub, sup);
-    if let Reply::Refused(r) = fit {
-        return Reply::Refused(r);
-    }
-    if image::pending_capacity(image) < 1 {
-        return Reply::Refused(Refusal::NoRoom(image::PENDING));
-    }
-    image::push_pending(image, sub, sup);
-    Reply::Done
-}
-
-// Records two entries as asked equal, unless they are one.
-fn record_equal(image: &mut [u32], left: u32, right: u32)
+// Records a question in equals, if it is recorded at all.
+fn record_equal(image: &mut [u32], q: Question)
     requires { ⌜ Shown (now image) ⌝ }
-    requires { ⌜ length (equalled left right (storeOf (now image)) .equals) ≤ storeOf (now image) .capacities .equals ⌝ }
-    ensures { λ _. ⌜ Shows (now (image .exit)) (tableOf (equalled left right (storeOf (now (image .entry)))) (pendingIn (now (image .entry)))) ⌝ }
+    requires { ⌜ length (recorded q (storeOf (now image)) .equals) ≤ storeOf (now image) .capacities .equals ⌝ }
+    ensures { λ _. ⌜ Shows (now (image .exit)) (tableOf (recorded q (storeOf (now (image .entry)))) (pendingIn (now (image .entry)))) ⌝ }
 {
-    if left == right {
+    if !is_recorded(q) {
         return;
     }
-    image::push_equal(image, left, right);
+    image::push_equal(image, q.left, q.right);
 }
 
-// Asks whether each of two entries fits under the other, and records that it was asked.
-pub fn ask_equal(image: &mut [u32], held: bool, left: u32, right: u32) -> Reply
-    requires { ⌜ T (wellFormed (now image)) ⌝ }
-    ensures { λ r. ⌜ toldReply r ≡ replyOf (now (image .entry)) (askEqualTurn held left right (table (now (image .entry)))) .says ⌝ }
-    ensures { λ _. ⌜ now (image .exit) ≡ replyOf (now (image .entry)) (askEqualTurn held left right (table (now (image .entry)))) .words ⌝ }
+// Puts a question's pairs, the one worked first last.
+fn put_pairs(image: &mut [u32], q: Question)
+    requires { ⌜ Shown (now image) ⌝ }
+    requires { ⌜ length (pendingIn (now image)) + length (pairsOf q) ≤ storeOf (now image) .capacities .pending ⌝ }
+    ensures { λ _. ⌜ Shows (now (image .exit)) (pendingTo (now (image .entry)) (pendingIn (now (image .entry)) ++ pairsOf q)) ⌝ }
 {
-    let fit = fitness(image, held, left, right);
+    if !q.equal {
+        image::push_pending(image, q.left, q.right);
+        return;
+    }
+    image::push_pending(image, q.right, q.left);
+    image::push_pending(image, q.left, q.right);
+}
+
+// Asks a question.
+pub fn ask(image: &mut [u32], q: Question) -> Reply
+    requires { ⌜ T (wellFormed (now image)) ⌝ }
+    ensures { λ r. ⌜ toldReply r ≡ replyOf (now (image .entry)) (askTurn q (table (now (image .entry)))) .says ⌝ }
+    ensures { λ _. ⌜ now (image .exit) ≡ replyOf (now (image .entry)) (askTurn q (table (now (image .entry)))) .words ⌝ }
+{
+    let fit = fitness(image, q);
     if let Reply::Refused(r) = fit {
         return Reply::Refused(r);
     }
-    if image::pending_capacity(image) < 2 {
-        return Reply::Refused(Refusal::NoRoom(image::PENDING));
-    }
-    let full = image::equals_capacity(image) <= image::equals_count(image);
-    if (left != right) & full {
-        return Reply::Refused(Refusal::NoRoom(image::EQUALS));
-    }
-    record_equal(image, left, right);
-    image::push_pending(image, right, left);
-    image::push_pending(image, left, right);
+    record_equal(image, q);
+    put_pairs(image, q);
     Reply::Done
 }
 

@@ -6,7 +6,7 @@ use mathlib.Core.Path.{_≡_, refl, sym, ap, _∙_}
 use mathlib.Core.List.{List}
 use mathlib.Core.Bool.{true, false}
 use denote.Ref.{RefT}
-use Rattle.model.specs.Calls.{Reply, perform, makesVariable, makesPrimitive, makesList, makesLambda, makesAttrset, makesNamed, makesNeg, makesInter, makesUnion, marks, putsBound, enters, exits, setsLevel, asks, asksEqual, works, abandons}
+use Rattle.model.specs.Calls.{Reply, perform, makesVariable, makesPrimitive, makesList, makesLambda, makesAttrset, makesNamed, makesNeg, makesInter, makesUnion, marks, putsBound, enters, exits, setsLevel, under, bothWays, asks, works, abandons}
 use Rattle.model.specs.Told.{more, toldAnswer}
 use Rattle.model.proofs.OneToOne.{answer-one-to-one}
 use Rattle.model.specs.declared.Refusal.{Refusal}
@@ -88,10 +88,10 @@ pub set-level-refused : LeavesAll Y.Refused set-level.Post
 set-level-refused κs a r e p = p .1 ∙ refused-as-found (setsLevel (a .1 .0) (a .1 .1 .0)) refl (a .0 .now) r (sym (p .0))
 
 pub ask-refused : LeavesAll Y.Refused ask.Post
-ask-refused κs a r e p = p .1 ∙ refused-as-found (asks (a .1 .0) (a .1 .1 .0) (a .1 .1 .1 .0)) refl (a .0 .now) r (sym (p .0))
+ask-refused κs a r e p = p .1 ∙ refused-as-found (asks (under (a .1 .0) (a .1 .1 .0) (a .1 .1 .1 .0))) refl (a .0 .now) r (sym (p .0))
 
 pub ask-equal-refused : LeavesAll Y.Refused ask-equal.Post
-ask-equal-refused κs a r e p = p .1 ∙ refused-as-found (asksEqual (a .1 .0) (a .1 .1 .0) (a .1 .1 .1 .0)) refl (a .0 .now) r (sym (p .0))
+ask-equal-refused κs a r e p = p .1 ∙ refused-as-found (asks (bothWays (a .1 .0) (a .1 .1 .0) (a .1 .1 .1 .0))) refl (a .0 .now) r (sym (p .0))
 
 pub abandon-refused : LeavesAll Y.Refused abandon.Post
 abandon-refused κs a r e p = p .1 ∙ refused-as-found abandons refl (a .0 .now) r (sym (p .0))

@@ -4,7 +4,7 @@
 use Prim.Native.Nat.{ℕ, _<_}
 use native.Mathlib.Omega.{arith}
 use mathlib.Core.Path.{_≡_, refl, sym, ap, _∙_}
-use mathlib.Core.List.{List, [], _∷_}
+use mathlib.Core.List.{List, [], _∷_, reverse}
 use mathlib.Core.Bool.{true, false, not}
 use mathlib.Core.Logic.{_↔_}
 use lib.Dec.{T}
@@ -14,11 +14,11 @@ use Rattle.model.specs.Table.{Pair, _⊑_, Break, Store, tableOf, isAsked, isBr
 use Rattle.model.specs.Image.{words, table}
 use Rattle.model.specs.Formed.{wellFormed}
 use Rattle.model.specs.Rules.{rule}
-use Rattle.model.specs.Calls.{Call, perform, brokenBy, equalled, makesVariable, makesPrimitive, makesList, makesLambda, makesAttrset, makesNamed, makesNeg, makesInter, makesUnion, marks, putsBound, enters, exits, setsLevel, asks, asksEqual, works, abandons}
-use Rattle.model.specs.Told.{toldReply, toldAnswer, toldRefusal}
+use Rattle.model.specs.Calls.{Call, perform, brokenBy, under, bothWays, recorded, isRecorded, pairsOf, makesVariable, makesPrimitive, makesList, makesLambda, makesAttrset, makesNamed, makesNeg, makesInter, makesUnion, marks, putsBound, enters, exits, setsLevel, asks, works, abandons}
+use Rattle.model.specs.Told.{toldReply, toldAnswer}
 use Rattle.model.proofs.OneToOne.{reply-one-to-one}
+use Rattle.model.specs.declared.Question.{Question}
 use Rattle.model.specs.declared.Failure.{Failure}
-use Rattle.model.specs.declared.Refusal.{Refusal}
 use Rattle.model.specs.declared.Refusal.the-variants as R
 use Rattle.model.specs.declared.Reply.{Reply as ReplyOut}
 use Rattle.model.specs.declared.Reply.the-variants as Y
@@ -28,9 +28,9 @@ use Rattle.model.specs.declared.Instalment.{Instalment}
 use Rattle.laws.specs.Turns.{storedArgument}
 use Rattle.laws.specs.Refusals.{breakAfter}
 use Rattle.laws.proofs.Calls.{call-formed}
-use Rattle.laws.proofs.Runs.{done-formed, read-as}
-use Rattle.laws.proofs.Breaks.{same-broken, call-keeps-break, failed-asked, failed-fills, failed-broken, plain-never-broken, plain-equal-never-broken, held-refused-exactly, held-equal-refused-exactly}
-use Rattle.sheafwinch.proofs.Demand3.{Run, Instalments, run-formed, asked-in-instalments, asked-equal-in-instalments}
+use Rattle.laws.proofs.Runs.{read-as}
+use Rattle.laws.proofs.Breaks.{same-broken, call-keeps-break, failed-asked, failed-fills, failed-broken, plain-never-broken, held-refused-exactly}
+use Rattle.sheafwinch.proofs.Demand3.{Run, Instalments, run-formed, Asks, asked-formed, question-in-instalments}
 use Rattle.sheafwinch.proofs.make_variable.Reads as make-variable
 use Rattle.sheafwinch.proofs.make_primitive.Reads as make-primitive
 use Rattle.sheafwinch.proofs.make_list.Reads as make-list
@@ -51,22 +51,18 @@ use Rattle.sheafwinch.proofs.work.Reads as work
 use Rattle.sheafwinch.proofs.abandon.Reads as abandon
 
 -- A plain question: what it says and every word are the model's.
-pub plain-ask : (κs : _) (a : _) (x : ReplyOut) (e : _) → ask.Post κs a x e → a .1 .0 ≡ false
-    → (toldReply x ≡ perform (asks false (a .1 .1 .0) (a .1 .1 .1 .0)) (a .0 .now) .says) × (e .0 .now ≡ perform (asks false (a .1 .1 .0) (a .1 .1 .1 .0)) (a .0 .now) .words)
+pub plain-ask : (κs : _) (a : _) (x : ReplyOut) (e : _) → ask.Post κs a x e → a .1 .0 ≡ false → Asks (under false (a .1 .1 .0) (a .1 .1 .1 .0)) (a .0 .now) x (e .0 .now)
 plain-ask κs a x e p plain = (rw plain at (p .0), rw plain at (p .1))
+
+pub plain-ask-equal : (κs : _) (a : _) (x : ReplyOut) (e : _) → ask-equal.Post κs a x e → a .1 .0 ≡ false → Asks (bothWays false (a .1 .1 .0) (a .1 .1 .1 .0)) (a .0 .now) x (e .0 .now)
+plain-ask-equal κs a x e p plain = (rw plain at (p .0), rw plain at (p .1))
 
 -- it is never refused by 8
 pub plain-ask-never-broken : (κs : _) (a : _) (e : _) (k x y n : ℕ) → ask.Post κs a (Y.Refused (R.Broken k x y n)) e → a .1 .0 ≡ false → ⊥
-plain-ask-never-broken κs a e k x y n p plain =
-    plain-never-broken (a .1 .1 .0) (a .1 .1 .1 .0) (a .0 .now) k x y n (sym (plain-ask κs a (Y.Refused (R.Broken k x y n)) e p plain .0))
-
-pub plain-ask-equal : (κs : _) (a : _) (x : ReplyOut) (e : _) → ask-equal.Post κs a x e → a .1 .0 ≡ false
-    → (toldReply x ≡ perform (asksEqual false (a .1 .1 .0) (a .1 .1 .1 .0)) (a .0 .now) .says) × (e .0 .now ≡ perform (asksEqual false (a .1 .1 .0) (a .1 .1 .1 .0)) (a .0 .now) .words)
-plain-ask-equal κs a x e p plain = (rw plain at (p .0), rw plain at (p .1))
+plain-ask-never-broken κs a e k x y n p plain = plain-never-broken (under (a .1 .0) (a .1 .1 .0) (a .1 .1 .1 .0)) (a .0 .now) k x y n plain (sym (p .0))
 
 pub plain-ask-equal-never-broken : (κs : _) (a : _) (e : _) (k x y n : ℕ) → ask-equal.Post κs a (Y.Refused (R.Broken k x y n)) e → a .1 .0 ≡ false → ⊥
-plain-ask-equal-never-broken κs a e k x y n p plain =
-    plain-equal-never-broken (a .1 .1 .0) (a .1 .1 .1 .0) (a .0 .now) k x y n (sym (plain-ask-equal κs a (Y.Refused (R.Broken k x y n)) e p plain .0))
+plain-ask-equal-never-broken κs a e k x y n p plain = plain-never-broken (bothWays (a .1 .0) (a .1 .1 .0) (a .1 .1 .1 .0)) (a .0 .now) k x y n plain (sym (p .0))
 
 -- work: what it says, the steps and every word are the model's
 pub plain-work : (κs : _) (a : _) (x : Instalment) (e : _) → work.Post κs a x e
@@ -85,46 +81,34 @@ answered bs s ps y n w h i = record {
   to-failure = λ f e. let k = i .to-failure f e in (k .0, k .1, read-as w (tableOf (k .0) []) h (k .2));
 }
 
+question-answered : {bs u w : List ℕ} (y : Answer) {n : ℕ} (q : Question) (v : List ℕ) → Asks q v Y.Done u → Run bs u y n w
+    → Answered (recorded q (table v .store)) (reverse (pairsOf q)) y n w
+question-answered {bs} {u} {w} y {n} q v p run = answered bs _ _ y n w (run-formed y (asked-formed q v u p) run) (question-in-instalments y q v p run)
+
 pub ask-answered : {bs w : List ℕ} (y : Answer) {n : ℕ} (κs : _) (a : _) (e : _) → ask.Post κs a Y.Done e → Run bs (e .0 .now) y n w
     → Answered (table (a .0 .now) .store) ((a .1 .1 .0 ⊑ a .1 .1 .1 .0) ∷ []) y n w
-ask-answered {bs} {w} y {n} κs a e p run =
-    let c : Call = asks (a .1 .0) (a .1 .1 .0) (a .1 .1 .1 .0) in
-    let h : T (wellFormed (e .0 .now)) = rw (p .1) (call-formed c (omega arith) (a .0 .now) (done-formed c (a .0 .now) [] (sym (p .0)))) in
-    answered bs _ _ y n w (run-formed y h run) (asked-in-instalments y κs a e p run)
+unfolding recorded isRecorded pairsOf
+ask-answered y κs a e p run = question-answered y (under (a .1 .0) (a .1 .1 .0) (a .1 .1 .1 .0)) (a .0 .now) p run
 
 pub ask-equal-answered : {bs w : List ℕ} (y : Answer) {n : ℕ} (κs : _) (a : _) (e : _) → ask-equal.Post κs a Y.Done e → Run bs (e .0 .now) y n w
-    → Answered (equalled (a .1 .1 .0) (a .1 .1 .1 .0) (table (a .0 .now) .store)) ((a .1 .1 .0 ⊑ a .1 .1 .1 .0) ∷ (a .1 .1 .1 .0 ⊑ a .1 .1 .0) ∷ []) y n w
-ask-equal-answered {bs} {w} y {n} κs a e p run =
-    let c : Call = asksEqual (a .1 .0) (a .1 .1 .0) (a .1 .1 .1 .0) in
-    let h : T (wellFormed (e .0 .now)) = rw (p .1) (call-formed c (omega arith) (a .0 .now) (done-formed c (a .0 .now) [] (sym (p .0)))) in
-    answered bs _ _ y n w (run-formed y h run) (asked-equal-in-instalments y κs a e p run)
+    → Answered (recorded (bothWays (a .1 .0) (a .1 .1 .0) (a .1 .1 .1 .0)) (table (a .0 .now) .store)) ((a .1 .1 .0 ⊑ a .1 .1 .1 .0) ∷ (a .1 .1 .1 .0 ⊑ a .1 .1 .0) ∷ []) y n w
+unfolding pairsOf
+ask-equal-answered y κs a e p run = question-answered y (bothWays (a .1 .0) (a .1 .1 .0) (a .1 .1 .1 .0)) (a .0 .now) p run
 
 -- A held question of a well formed image that is idle is refused with the break exactly when its kind is not 0.
-module _ (x : ReplyOut) (r : Refusal) (c : Call) (ws : List ℕ) (e : toldReply x ≡ perform c ws .says) where
-  -- what is answered is what is said
-  answers : x ≡ Y.Refused r → perform c ws .says ≡ toldRefusal r
-  answers f = sym e ∙ ap toldReply f
-
-  said : perform c ws .says ≡ toldRefusal r → x ≡ Y.Refused r
-  said f = reply-one-to-one x (Y.Refused r) (e ∙ f)
+held-question-refused : (q : Question) (v : List ℕ) (x : ReplyOut) (w : List ℕ) → Asks q v x w → q .held ≡ true → T (wellFormed v) → T (not (isAsked (table v)))
+    → x ≡ Y.Refused (brokenBy (table v .store .broken)) ↔ T (isBroken (table v .store))
+held-question-refused q v x w p held h idle =
+    let k = held-refused-exactly q held v h idle in
+    (λ f. k .0 (sym (p .0) ∙ ap toldReply f), λ b. reply-one-to-one x (Y.Refused (brokenBy (table v .store .broken))) (p .0 ∙ k .1 b))
 
 pub held-ask-refused : (κs : _) (a : _) (x : ReplyOut) (e : _) → ask.Post κs a x e → a .1 .0 ≡ true → T (wellFormed (a .0 .now)) → T (not (isAsked (table (a .0 .now))))
     → x ≡ Y.Refused (brokenBy (table (a .0 .now) .store .broken)) ↔ T (isBroken (table (a .0 .now) .store))
-held-ask-refused κs a x e p held h idle =
-    let v : List ℕ = a .0 .now in
-    let c : Call = asks true (a .1 .1 .0) (a .1 .1 .1 .0) in
-    let q : toldReply x ≡ perform c v .says = rw held at (p .0) in
-    let k = held-refused-exactly (a .1 .1 .0) (a .1 .1 .1 .0) v h idle in
-    (λ f. k .0 (answers x _ c v q f), λ b. said x _ c v q (k .1 b))
+held-ask-refused κs a x e p = held-question-refused (under (a .1 .0) (a .1 .1 .0) (a .1 .1 .1 .0)) (a .0 .now) x (e .0 .now) p
 
 pub held-ask-equal-refused : (κs : _) (a : _) (x : ReplyOut) (e : _) → ask-equal.Post κs a x e → a .1 .0 ≡ true → T (wellFormed (a .0 .now)) → T (not (isAsked (table (a .0 .now))))
     → x ≡ Y.Refused (brokenBy (table (a .0 .now) .store .broken)) ↔ T (isBroken (table (a .0 .now) .store))
-held-ask-equal-refused κs a x e p held h idle =
-    let v : List ℕ = a .0 .now in
-    let c : Call = asksEqual true (a .1 .1 .0) (a .1 .1 .1 .0) in
-    let q : toldReply x ≡ perform c v .says = rw held at (p .0) in
-    let k = held-equal-refused-exactly (a .1 .1 .0) (a .1 .1 .1 .0) v h idle in
-    (λ f. k .0 (answers x _ c v q f), λ b. said x _ c v q (k .1 b))
+held-ask-equal-refused κs a x e p = held-question-refused (bothWays (a .1 .0) (a .1 .1 .0) (a .1 .1 .1 .0)) (a .0 .now) x (e .0 .now) p
 
 -- A question that fails leaves a break: the one that was, or its own.
 module _ (κs : _) (a : _) (x : Instalment) (e : _) (p : work.Post κs a x e) (f : Failure) (fails : x .answer ≡ A.Failed f) where
@@ -185,8 +169,8 @@ break-stays {v} h b (by-put-bound κs a x e p l) = next (putsBound (a .1 .0) (a 
 break-stays {v} h b (by-enter κs a x e p l) = next enters (omega arith) v (a .0 .now) (e .0 .now) (break-stays h b l) (p .1)
 break-stays {v} h b (by-exit κs a x e p l) = next exits (omega arith) v (a .0 .now) (e .0 .now) (break-stays h b l) (p .1)
 break-stays {v} h b (by-set-level κs a x e p l fits) = next (setsLevel (a .1 .0) (a .1 .1 .0)) fits v (a .0 .now) (e .0 .now) (break-stays h b l) (p .1)
-break-stays {v} h b (by-ask κs a x e p l) = next (asks (a .1 .0) (a .1 .1 .0) (a .1 .1 .1 .0)) (omega arith) v (a .0 .now) (e .0 .now) (break-stays h b l) (p .1)
-break-stays {v} h b (by-ask-equal κs a x e p l) = next (asksEqual (a .1 .0) (a .1 .1 .0) (a .1 .1 .1 .0)) (omega arith) v (a .0 .now) (e .0 .now) (break-stays h b l) (p .1)
+break-stays {v} h b (by-ask κs a x e p l) = next (asks (under (a .1 .0) (a .1 .1 .0) (a .1 .1 .1 .0))) (omega arith) v (a .0 .now) (e .0 .now) (break-stays h b l) (p .1)
+break-stays {v} h b (by-ask-equal κs a x e p l) = next (asks (bothWays (a .1 .0) (a .1 .1 .0) (a .1 .1 .1 .0))) (omega arith) v (a .0 .now) (e .0 .now) (break-stays h b l) (p .1)
 break-stays {v} h b (by-work κs a x e p l) = next (works (a .1 .0)) (omega arith) v (a .0 .now) (e .0 .now) (break-stays h b l) (p .1 .1)
 break-stays {v} h b (by-abandon κs a x e p l) = next abandons (omega arith) v (a .0 .now) (e .0 .now) (break-stays h b l) (p .1)
 
@@ -200,14 +184,16 @@ module _ (κs : _) (a : _) (x : Instalment) (e : _) (p : work.Post κs a x e) (f
       (l .0, l .1 ∙ k .1, l .2)
 
   -- so every held question, where none is asked, is refused with it
+  held-question-after-failure : (q : Question) (v : List ℕ) (y : ReplyOut) (u : List ℕ) → Asks q v y u → v ≡ w → q .held ≡ true → T (not (isAsked (table w)))
+      → y ≡ Y.Refused (brokenBy (breakAfter f (table (a .0 .now) .store)))
+  held-question-after-failure q v y u p image held idle =
+      let k = broken-until-start in
+      held-question-refused q v y u p held (rw image (k .0)) (rw image idle) .1 (rw image (k .2)) ∙ ap (λ (z : Break). Y.Refused (brokenBy z)) (rw image (k .1))
+
   pub held-ask-after-failure : (ls : _) (b : _) (y : ReplyOut) (g : _) → ask.Post ls b y g → b .0 .now ≡ w → b .1 .0 ≡ true → T (not (isAsked (table w)))
       → y ≡ Y.Refused (brokenBy (breakAfter f (table (a .0 .now) .store)))
-  held-ask-after-failure ls b y g q image held idle =
-      let k = broken-until-start in
-      held-ask-refused ls b y g q held (rw image (k .0)) (rw image idle) .1 (rw image (k .2)) ∙ ap (λ (z : Break). Y.Refused (brokenBy z)) (rw image (k .1))
+  held-ask-after-failure ls b y g p = held-question-after-failure (under (b .1 .0) (b .1 .1 .0) (b .1 .1 .1 .0)) (b .0 .now) y (g .0 .now) p
 
   pub held-ask-equal-after-failure : (ls : _) (b : _) (y : ReplyOut) (g : _) → ask-equal.Post ls b y g → b .0 .now ≡ w → b .1 .0 ≡ true → T (not (isAsked (table w)))
       → y ≡ Y.Refused (brokenBy (breakAfter f (table (a .0 .now) .store)))
-  held-ask-equal-after-failure ls b y g q image held idle =
-      let k = broken-until-start in
-      held-ask-equal-refused ls b y g q held (rw image (k .0)) (rw image idle) .1 (rw image (k .2)) ∙ ap (λ (z : Break). Y.Refused (brokenBy z)) (rw image (k .1))
+  held-ask-equal-after-failure ls b y g p = held-question-after-failure (bothWays (b .1 .0) (b .1 .1 .0) (b .1 .1 .1 .0)) (b .0 .now) y (g .0 .now) p

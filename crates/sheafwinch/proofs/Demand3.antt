@@ -13,10 +13,12 @@ use Rattle.model.specs.Table.{Pair, _⊑_, Store, Table, tableOf, isAsked}
 use Rattle.model.specs.Image.{words, table}
 use Rattle.model.specs.Formed.{wellFormed}
 use Rattle.model.specs.Rules.{rule}
-use Rattle.model.specs.Calls.{Reply, Call, asks, asksEqual, works, equalled, perform}
-use Rattle.model.specs.Told.{toldAnswer}
+use Rattle.model.specs.Calls.{Reply, under, bothWays, isRecorded, recorded, pairsOf, asks, works, perform}
+use Rattle.model.specs.Told.{toldReply, toldAnswer}
+use Rattle.model.specs.declared.Question.{Question}
 use Rattle.model.specs.declared.Failure.{Failure}
 use Rattle.model.specs.declared.Refusal.{Refusal}
+use Rattle.model.specs.declared.Reply.{Reply as ReplyOut}
 use Rattle.model.specs.declared.Reply.the-variants as Y
 use Rattle.model.specs.declared.Answer.{Answer}
 use Rattle.model.specs.declared.Answer.the-variants as A
@@ -26,7 +28,7 @@ use Rattle.instalments.proofs.Whole.{whole-same}
 use Rattle.instalments.proofs.Part.{part-short}
 use Rattle.laws.proofs.Calls.{call-formed}
 use Rattle.laws.proofs.Demands.{image-demand-3}
-use Rattle.laws.proofs.Questions.{ask-demand-3, ask-equal-demand-3}
+use Rattle.laws.proofs.Questions.{ask-demand-3}
 use Rattle.laws.proofs.Runs.{work-all-stops, work-all-goes-on, work-all-formed, read-as, done-formed}
 use Rattle.sheafwinch.proofs.ask.Reads as ask
 use Rattle.sheafwinch.proofs.ask_equal.Reads as ask-equal
@@ -68,18 +70,19 @@ pub run-demand-3 : {bs v w : List ℕ} (y : Answer) {n : ℕ} → T (wellFormed 
     → Demand-3 bs (table v .store) (table v .pending) (asReply y n w)
 run-demand-3 {bs} {v} y h a run = rw (run-is y run) (image-demand-3 bs v h a)
 
--- from a question on: ask, done, opens with its pair; ask equal with two, (a, b) worked wholly, then (b, a)
-pub ask-run : {bs w : List ℕ} (y : Answer) {n : ℕ} (κs : _) (a : _) (e : _) → ask.Post κs a Y.Done e → Run bs (e .0 .now) y n w
-    → Demand-3 bs (table (a .0 .now) .store) ((a .1 .1 .0 ⊑ a .1 .1 .1 .0) ∷ []) (asReply y n w)
-ask-run {bs} y κs a e p run =
-    let h = done-formed (asks (a .1 .0) (a .1 .1 .0) (a .1 .1 .1 .0)) (a .0 .now) [] (sym (p .0)) in
-    rw (run-is y run, p .1) (ask-demand-3 bs (a .1 .0) (a .1 .1 .0) (a .1 .1 .1 .0) (a .0 .now) h (sym (p .0)))
+-- what the contracts of `ask` and `ask_equal` say: the question `q`, asked of the image `v`, answers `x` and leaves the image `w`
+abbrev pub Asks : Question → List ℕ → ReplyOut → List ℕ → Type 0
+Asks q v x w = (toldReply x ≡ perform (asks q) v .says) × (w ≡ perform (asks q) v .words)
 
-pub ask-equal-run : {bs w : List ℕ} (y : Answer) {n : ℕ} (κs : _) (a : _) (e : _) → ask-equal.Post κs a Y.Done e → Run bs (e .0 .now) y n w
-    → Demand-3 bs (equalled (a .1 .1 .0) (a .1 .1 .1 .0) (table (a .0 .now) .store)) ((a .1 .1 .1 .0 ⊑ a .1 .1 .0) ∷ (a .1 .1 .0 ⊑ a .1 .1 .1 .0) ∷ []) (asReply y n w)
-ask-equal-run {bs} y κs a e p run =
-    let h = done-formed (asksEqual (a .1 .0) (a .1 .1 .0) (a .1 .1 .1 .0)) (a .0 .now) [] (sym (p .0)) in
-    rw (run-is y run, p .1) (ask-equal-demand-3 bs (a .1 .0) (a .1 .1 .0) (a .1 .1 .1 .0) (a .0 .now) h (sym (p .0)))
+pub asked-formed : (q : Question) (v u : List ℕ) → Asks q v Y.Done u → T (wellFormed u)
+asked-formed q v u p = rw (p .1) (call-formed (asks q) (omega arith) v (done-formed (asks q) v [] (sym (p .0))))
+
+-- from a question on: done, it opens with its record and its pairs
+pub question-run : {bs u w : List ℕ} (y : Answer) {n : ℕ} (q : Question) (v : List ℕ) → Asks q v Y.Done u → Run bs u y n w
+    → Demand-3 bs (recorded q (table v .store)) (pairsOf q) (asReply y n w)
+question-run {bs} y q v p run =
+    let h = done-formed (asks q) v [] (sym (p .0)) in
+    rw (run-is y run, p .1) (ask-demand-3 q v h bs (sym (p .0)))
 
 -- The same in the customer's words: a question that began with the store `s` and the pairs `ps`, in the order in which they are
 -- worked, after a run that answered `y`, took `n` steps and left the words `w`.
@@ -123,22 +126,23 @@ pub worked-in-instalments : {bs v w : List ℕ} (y : Answer) {n : ℕ} → T (we
     → Instalments bs (table v .store) (reverse (table v .pending)) y n w
 worked-in-instalments {bs} {v} {w} y {n} h a run = in-instalments bs (table v .store) (table v .pending) y n w (run-formed y h run) (run-demand-3 y h a run)
 
--- demand 3, from a question on: `a .1 .1 .0` and `a .1 .1 .1 .0` are its two entries. Ask has one pair
+-- demand 3, from a question on: its pairs, in the order in which they are worked, after it was recorded
+pub question-in-instalments : {bs u w : List ℕ} (y : Answer) {n : ℕ} (q : Question) (v : List ℕ) → Asks q v Y.Done u → Run bs u y n w
+    → Instalments bs (recorded q (table v .store)) (reverse (pairsOf q)) y n w
+question-in-instalments {bs} {u} {w} y {n} q v p run =
+    in-instalments bs (recorded q (table v .store)) (pairsOf q) y n w (run-formed y (asked-formed q v u p) run) (question-run y q v p run)
+
+-- `a .1 .1 .0` and `a .1 .1 .1 .0` are its two entries. Ask has one pair
 pub asked-in-instalments : {bs w : List ℕ} (y : Answer) {n : ℕ} (κs : _) (a : _) (e : _) → ask.Post κs a Y.Done e → Run bs (e .0 .now) y n w
     → Instalments bs (table (a .0 .now) .store) ((a .1 .1 .0 ⊑ a .1 .1 .1 .0) ∷ []) y n w
-asked-in-instalments {bs} {w} y {n} κs a e p run =
-    let c : Call = asks (a .1 .0) (a .1 .1 .0) (a .1 .1 .1 .0) in
-    let h = call-formed c (omega arith) (a .0 .now) (done-formed c (a .0 .now) [] (sym (p .0))) in
-    in-instalments bs (table (a .0 .now) .store) ((a .1 .1 .0 ⊑ a .1 .1 .1 .0) ∷ []) y n w (run-formed y (rw (p .1) h) run) (ask-run y κs a e p run)
+unfolding recorded isRecorded pairsOf
+asked-in-instalments y κs a e p run = question-in-instalments y (under (a .1 .0) (a .1 .1 .0) (a .1 .1 .1 .0)) (a .0 .now) p run
 
 -- ask equal has (a, b), wholly, then (b, a), after recording them in equals
 pub asked-equal-in-instalments : {bs w : List ℕ} (y : Answer) {n : ℕ} (κs : _) (a : _) (e : _) → ask-equal.Post κs a Y.Done e → Run bs (e .0 .now) y n w
-    → Instalments bs (equalled (a .1 .1 .0) (a .1 .1 .1 .0) (table (a .0 .now) .store)) ((a .1 .1 .0 ⊑ a .1 .1 .1 .0) ∷ (a .1 .1 .1 .0 ⊑ a .1 .1 .0) ∷ []) y n w
-asked-equal-in-instalments {bs} {w} y {n} κs a e p run =
-    let c : Call = asksEqual (a .1 .0) (a .1 .1 .0) (a .1 .1 .1 .0) in
-    let h = call-formed c (omega arith) (a .0 .now) (done-formed c (a .0 .now) [] (sym (p .0))) in
-    in-instalments bs (equalled (a .1 .1 .0) (a .1 .1 .1 .0) (table (a .0 .now) .store)) ((a .1 .1 .1 .0 ⊑ a .1 .1 .0) ∷ (a .1 .1 .0 ⊑ a .1 .1 .1 .0) ∷ []) y n w
-    (run-formed y (rw (p .1) h) run) (ask-equal-run y κs a e p run)
+    → Instalments bs (recorded (bothWays (a .1 .0) (a .1 .1 .0) (a .1 .1 .1 .0)) (table (a .0 .now) .store)) ((a .1 .1 .0 ⊑ a .1 .1 .1 .0) ∷ (a .1 .1 .1 .0 ⊑ a .1 .1 .0) ∷ []) y n w
+unfolding pairsOf
+asked-equal-in-instalments y κs a e p run = question-in-instalments y (bothWays (a .1 .0) (a .1 .1 .0) (a .1 .1 .1 .0)) (a .0 .now) p run
 
 well-one : {s u : Store} → _≡_ {A = End Store Failure} (well s) (well u) → s ≡ u
 well-one e = cc

@@ -6,6 +6,7 @@ use model::Dynamic;
 use model::EntryRead;
 use model::Instalment;
 use model::Made;
+use model::Question;
 use model::Record;
 use model::Refusal;
 use model::Reply;
@@ -15,7 +16,7 @@ ghost use lib.Dec.{T};
 ghost use Rattle.model.specs.Format.{neg};
 ghost use Rattle.model.specs.Image.{table};
 ghost use Rattle.model.specs.Formed.{wellFormed};
-ghost use Rattle.model.specs.Calls.{replyOf, variableTurn, primitiveTurn, oneTurn, twoTurn, negTurn, attrsetTurn, dynamicKnown, markTurn, putBoundTurn, enterTurn, exitTurn, setLevelTurn, readEntryTurn, readRecordTurn, readDisjointTurn, perform, makesVariable, makesPrimitive, makesList, makesLambda, makesAttrset, makesNamed, makesNeg, makesInter, makesUnion, marks, putsBound, enters, exits, setsLevel, asks, asksEqual, works, abandons, readsEntry, readsRecord, readsDisjoint};
+ghost use Rattle.model.specs.Calls.{replyOf, variableTurn, primitiveTurn, oneTurn, twoTurn, negTurn, attrsetTurn, dynamicKnown, markTurn, putBoundTurn, enterTurn, exitTurn, setLevelTurn, readEntryTurn, readRecordTurn, readDisjointTurn, perform, makesVariable, makesPrimitive, makesList, makesLambda, makesAttrset, makesNamed, makesNeg, makesInter, makesUnion, marks, putsBound, enters, exits, setsLevel, under, bothWays, asks, works, abandons, readsEntry, readsRecord, readsDisjoint};
 ghost use Rattle.model.specs.Calls.{start as startOf};
 ghost use Rattle.model.specs.Told.{toldMade, toldReply, toldAnswer, toldEntryRead, toldRecord, toldDisjointness};
 ghost use Rattle.image.specs.Shown.{entriesOf};
@@ -377,24 +378,41 @@ fn level_in(image: &mut [u32], v: u32, level: u32) -> Reply
 
 // Asks whether sub fits under sup; a held question is refused once a question in this table has failed.
 pub fn ask(image: &mut [u32], held: bool, sub: u32, sup: u32) -> Reply
-    ensures { λ r. ⌜ toldReply r ≡ perform (asks held sub sup) (now (image .entry)) .says ⌝ }
-    ensures { λ _. ⌜ now (image .exit) ≡ perform (asks held sub sup) (now (image .entry)) .words ⌝ }
+    ensures { λ r. ⌜ toldReply r ≡ perform (asks (under held sub sup)) (now (image .entry)) .says ⌝ }
+    ensures { λ _. ⌜ now (image .exit) ≡ perform (asks (under held sub sup)) (now (image .entry)) .words ⌝ }
 {
-    if !formed::check(image) {
-        return Reply::Refused(Refusal::BadTable);
-    }
-    questions::ask(image, held, sub, sup)
+    let q = Question {
+        held,
+        equal: false,
+        left: sub,
+        right: sup,
+    };
+    asked(image, q)
 }
 
 // Asks whether each of two entries fits under the other.
 pub fn ask_equal(image: &mut [u32], held: bool, left: u32, right: u32) -> Reply
-    ensures { λ r. ⌜ toldReply r ≡ perform (asksEqual held left right) (now (image .entry)) .says ⌝ }
-    ensures { λ _. ⌜ now (image .exit) ≡ perform (asksEqual held left right) (now (image .entry)) .words ⌝ }
+    ensures { λ r. ⌜ toldReply r ≡ perform (asks (bothWays held left right)) (now (image .entry)) .says ⌝ }
+    ensures { λ _. ⌜ now (image .exit) ≡ perform (asks (bothWays held left right)) (now (image .entry)) .words ⌝ }
+{
+    let q = Question {
+        held,
+        equal: true,
+        left,
+        right,
+    };
+    asked(image, q)
+}
+
+// A question.
+fn asked(image: &mut [u32], q: Question) -> Reply
+    ensures { λ r. ⌜ toldReply r ≡ perform (asks q) (now (image .entry)) .says ⌝ }
+    ensures { λ _. ⌜ now (image .exit) ≡ perform (asks q) (now (image .entry)) .words ⌝ }
 {
     if !formed::check(image) {
         return Reply::Refused(Refusal::BadTable);
     }
-    questions::ask_equal(image, held, left, right)
+    questions::ask(image, q)
 }
 
 // Works the question that is asked, at most so many steps; tells the answer, and the steps of this call.

@@ -16,7 +16,7 @@ pub extern "C" fn __asan_default_options() -> *const c_char {
     c"redzone=512:detect_leaks=0".as_ptr()
 }
 
-// Linux on x86-64.
+// Linux on x86-64, and on Arm with pages of this size; where they are larger, mprotect fails.
 const PAGE: usize = 4096;
 const NONE: c_int = 0;
 const READ_WRITE: c_int = 3;

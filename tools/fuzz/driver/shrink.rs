@@ -2,6 +2,7 @@
 
 use crate::case::{parse, Line};
 use std::io::Write;
+use std::path::PathBuf;
 use std::process::{Child, Command, ExitStatus, Output, Stdio};
 use std::thread::sleep;
 use std::time::{Duration, Instant};
@@ -9,9 +10,10 @@ use std::time::{Duration, Instant};
 /// A case takes a small part of a second: one that takes so long does not end.
 const LONGEST: Duration = Duration::from_secs(20);
 
-/// This program again.
+/// This program again, or what FUZZ_AGAIN names, which runs it: an emulated program cannot be run by its own path.
 pub fn own_program(args: &[&str]) -> Command {
-    let mut command = Command::new(std::env::current_exe().expect("the driver's path"));
+    let again = std::env::var_os("FUZZ_AGAIN").map(PathBuf::from);
+    let mut command = Command::new(again.unwrap_or_else(|| std::env::current_exe().expect("the driver's path")));
     command.args(args);
     command
 }

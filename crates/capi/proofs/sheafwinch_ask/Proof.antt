@@ -4,7 +4,7 @@ use mathlib.Core.Path.{ap, _∙_}
 use mathlib.Core.Bool.{Bool}
 use denote.Ref.{now}
 use Rattle.model.specs.Told.{Told}
-use Rattle.model.specs.Calls.{perform, asks}
+use Rattle.model.specs.Calls.{perform, under, asks}
 use Rattle.capi.specs.Answers.{answerOf}
 use Rattle.capi.proofs.sheafwinch_ask.Statement.{statement}
 use Rattle.capi.proofs.sheafwinch_ask.Tie as tie
@@ -26,7 +26,7 @@ returns c =
     let s = c .before .before .before .before .before .before .before in
     let d = c .before .before .before .ask .ensures in
     let f = c .before .before .before .before .before .flag .ensures in
-    (c .of-reply .ensures ∙ ap (λ (t : Told). answerOf 0 t) (d .0 ∙ ap (λ (h : Bool). perform (asks h (s .args .sub) (s .args .sup)) (now (s .args .image)) .says) f), d .1 ∙ ap (λ (h : Bool). perform (asks h (s .args .sub) (s .args .sup)) (now (s .args .image)) .words) f)
+    (c .of-reply .ensures ∙ ap (λ (t : Told). answerOf 0 t) (d .0 ∙ ap (λ (h : Bool). perform (asks (under h (s .args .sub) (s .args .sup))) (now (s .args .image)) .says) f), d .1 ∙ ap (λ (h : Bool). perform (asks (under h (s .args .sub) (s .args .sup))) (now (s .args .image)) .words) f)
 
 pub sheafwinch-ask-spec : {M : Type 1} → statement M
 sheafwinch-ask-spec =

@@ -1,4 +1,4 @@
--- `ask`: refused where the image is not well formed, else what crate `questions` does.
+-- `asked`: refused where the image is not well formed, else what crate `questions` does.
 use mathlib.Core.Path.{_≡_, sym, _∙_}
 use mathlib.Core.Bool.{false}
 use lib.Dec.{T}
@@ -9,8 +9,8 @@ use Rattle.model.specs.Formed.{wellFormed}
 use Rattle.model.specs.Calls.{turnOf, asks}
 use Rattle.laws.proofs.Tests.{of-true}
 use Rattle.sheafwinch.proofs.Turning.{bad-table, good-table}
-use Rattle.sheafwinch.proofs.ask.Statement.{statement}
-use Rattle.sheafwinch.proofs.ask.Tie as tie
+use Rattle.sheafwinch.proofs.asked.Statement.{statement}
+use Rattle.sheafwinch.proofs.asked.Tie as tie
 
 check-requires : tie.Need-check-requires
 check-requires c κs =
@@ -24,7 +24,7 @@ returns : tie.Need-returns
 returns c =
     let s = c .before .before .before .before in
     let e : wellFormed (now (s .args .image)) ≡ false = sym (c .before .check .ensures) ∙ not-true _ (c .if1 .taken) in
-    let k = bad-table (asks (s .args .held) (s .args .sub) (s .args .sup)) (now (s .args .image)) e in
+    let k = bad-table (asks (s .args .q)) (now (s .args .image)) e in
     (k .says, k .leaves)
 
 ask-requires : tie.Need-ask-requires
@@ -41,11 +41,11 @@ returns-2 c =
     let s = c .before .before .before .before .before .before .before .before in
     let h : T (wellFormed (now (s .args .image))) = of-true _ (sym (c .before .before .before .before .before .check .ensures) ∙ not-false _ (c .before .before .before .before .if1 .left)) in
     let d = c .before .before .ask .ensures in
-    let k = good-table (asks (s .args .held) (s .args .sub) (s .args .sup)) (now (s .args .image)) h (record { says = d .0; leaves = d .1 }) in
+    let k = good-table (asks (s .args .q)) (now (s .args .image)) h (record { says = d .0; leaves = d .1 }) in
     (k .says, k .leaves)
 
-pub ask-spec : {M : Type 1} → statement M
-ask-spec =
+pub asked-spec : {M : Type 1} → statement M
+asked-spec =
     tie.close
     (tie.spec
     check-requires

@@ -1,0 +1,15 @@
+-- Recorded: both ways, and of two entries.
+use mathlib.Core.Path.{refl}
+use Rattle.model.specs.Calls.{isRecorded}
+use Rattle.questions.proofs.is_recorded.Statement.{statement}
+use Rattle.questions.proofs.is_recorded.Tie as tie
+use Rattle.questions.proofs.is_recorded.Reads as reads
+use Rattle.questions.proofs.is_recorded.Lts as lts
+
+-- src/lib.rt:23:1
+returns : tie.Need-returns
+unfolding isRecorded
+returns c = refl
+
+pub is-recorded-spec : {M : Type 1} → statement M
+is-recorded-spec = tie.close (tie.spec returns)
