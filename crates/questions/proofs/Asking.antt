@@ -217,11 +217,11 @@ module _ (q : Question) where
   pub one-put : (w v : List ℕ) → q .equal ≡ false → ShowsAs idle v (pendingTo w (pendingIn w ++ ((q .left ⊑ q .right) ∷ []))) → ShowsAs idle v (pendingTo w (pendingIn w ++ pairsOf q))
   one-put w v e s = rw (one-way e) s
 
-  pub some-put : {w v : List ℕ} → ShowsAs idle v (pendingTo w (pendingIn w ++ pairsOf q)) → 0 < length (pendingIn v)
+  pub some-put : (w : List ℕ) {v : List ℕ} → ShowsAs idle v (pendingTo w (pendingIn w ++ pairsOf q)) → 0 < length (pendingIn v)
   unfolding pairsOf
-  some-put {w} s =
+  some-put w put =
       let some : 0 < length (pairsOf q) = by-test (λ (l : List Pair). 0 < length l) (q .equal) (λ h. omega arith) (λ h. omega arith) in
-      omega (arith, ap (λ (t : Table). length (t .pending)) (seen-as s), length-append (pendingIn w) (pairsOf q), some)
+      omega (arith, ap (λ (t : Table). length (t .pending)) (seen-as put), length-append (pendingIn w) (pairsOf q), some)
 
   -- both, one after the other
   module _ (w v : List ℕ) (none : pendingIn w ≡ []) (s : Shows v (tableOf (recorded q (storeOf w)) (pendingIn w))) where

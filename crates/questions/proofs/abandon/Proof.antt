@@ -31,7 +31,7 @@ returns c = refused-so _ _ _ (idle-so _ _ (sym (c .before .is-asked .ensures) �
 end-question-requires : tie.Need-end-question-requires
 end-question-requires c κs =
     let s = c .before .before .before .before .before in
-    while-asked (formed-shown _ (s .pre)) (asked-some (now (s .args .image)) (sym (c .before .before .before .is-asked .ensures) ∙ not-false _ (c .before .before .if1 .left)))
+    while-asked (formed-shown _ (s .pre)) (asked-some (now (s .args .image)) (sym (c .before .before .is-asked .ensures) ∙ not-false _ (c .before .if1 .left)))
 
 -- src/lib.rt:150:1
 same-length-2 : tie.Need-same-length-2

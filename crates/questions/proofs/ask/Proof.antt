@@ -62,7 +62,7 @@ open-question-requires : tie.Need-open-question-requires
 open-question-requires c κs =
     let s = c .before .before .before .before .before .before .before .before .before .before .before .before .before .before in
     let p = c .before .before .before .put-pairs .ensures in
-    (shown-as p, some-put (s .args .q) p)
+    (shown-as p, some-put (s .args .q) _ p)
 
 -- src/lib.rt:109:1
 same-length-2 : tie.Need-same-length-2
