@@ -11,8 +11,8 @@ use lib.Seq.{take-all}
 use lib.Dec.{ltb}
 use Rattle.model.specs.Lists.{all, allFrom, readMany}
 use Rattle.model.specs.Table.{Entry}
-use Rattle.model.specs.Image.{pairOf}
 use Rattle.model.specs.Formed.{isEntry, pairRight}
+use Rattle.formed.specs.Grouped.{pairOf}
 
 module _ {A : Type 0} (f : ℕ → A → Bool) (d : A) where
   from-more : (n : ℕ) (l : List A) (i : ℕ) → i < length l → allFrom f n (take (suc i) l) ≡ (allFrom f n (take i l) && f (n + i) (getD l i d))
@@ -52,7 +52,7 @@ module _ {A : Type 0} (f : A → Bool) (d : A) where
 -- pairs are right where all their words are numbers of entries
 pub pairs-are : (es : List Entry) (n : ℕ) (l : List ℕ) → 2 * n ≤ length l
     → all (λ w. ltb w (length es)) (take (2 * n) l) ≡ all (pairRight es) (readMany pairOf (drop 2) n l)
-unfolding all readMany pairOf pairRight isEntry
+unfolding all readMany pairRight isEntry
 pairs-are es zero l h = refl
 pairs-are es (suc n) [] h = absurd (omega arith)
 pairs-are es (suc n) (a ∷ []) h = absurd (omega arith)

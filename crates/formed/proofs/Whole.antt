@@ -11,14 +11,14 @@ use mir.Val.{Fits}
 use lib.Dec.{T, eqb, leb, ltb}
 use Rattle.model.specs.Lists.{isZero, allOf, all}
 use Rattle.model.specs.Format.{headerWords, entriesRegion, equalsRegion, equalsWidth}
-use Rattle.model.specs.Image.{word, offset, capacity, count, pairOf, recordsOf, table}
+use Rattle.model.specs.Image.{word, offset, capacity, count, recordsOf, table}
 use Rattle.model.specs.Formed.{wordsFit, headerWhole, formatKnown, stateKnown, pendingWhenAsked, namesFew, functorKnown, regionEnd, restZero, regionRight, regionsRight, pairRight, recordsRight, wellFormed}
 use Rattle.laws.proofs.Tests.{true-of, of-true, nth, all-of, of-lt, le-of, eq-of}
 use Rattle.laws.proofs.Regions.{parts}
 use Rattle.image.specs.Laid.{RegionLaid, Laid}
 use Rattle.image.specs.Shown.{entriesOf}
 use Rattle.image.proofs.Reading.{entries-count}
-use Rattle.formed.specs.Grouped.{headerRight, regionLaid, regionsLaid, restsZero, RegionInside}
+use Rattle.formed.specs.Grouped.{headerRight, regionLaid, regionsLaid, restsZero, RegionInside, pairOf}
 use Rattle.formed.proofs.Tested.{all-append, Split, beside}
 use Rattle.formed.proofs.Walked.{pairs-are}
 

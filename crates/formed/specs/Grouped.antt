@@ -9,8 +9,8 @@ use Rattle.model.specs.Lists.{allOf, all}
 use Rattle.model.specs.Format.{headerWords, entriesRegion, fieldsRegion, boundsRegion, visitedRegion, pendingRegion, equalsRegion}
 use Rattle.model.specs.Format.{entryWidth, fieldWidth, boundWidth, visitedWidth, pendingWidth, equalsWidth}
 use Rattle.model.specs.Format.{entriesMost, fieldsMost, boundsMost, visitedMost, pendingMost, equalsMost}
-use Rattle.model.specs.Table.{Entry, Field}
-use Rattle.model.specs.Image.{offset, capacity, count}
+use Rattle.model.specs.Table.{Entry, Field, Pair, _⊑_}
+use Rattle.model.specs.Image.{word, offset, capacity, count}
 use Rattle.model.specs.Formed.{headerWhole, formatKnown, stateKnown, pendingWhenAsked, namesFew, functorKnown, regionEnd, restZero, namesAscend, entryRight}
 use Rattle.image.specs.Shown.{storeOf, entriesOf, fieldsIn}
 use Rattle.formed.specs.declared.EntryWords.{EntryWords}
@@ -58,6 +58,10 @@ pub record RegionInside (ws : List ℕ) (k width : ℕ) : Type 0 where
 -- an entry from its words
 abbrev pub entryTold : EntryWords → Entry
 entryTold e = record { kind = e .kind; x = e .x; y = e .y; z = e .z; flags = e .flags; spread = e .spread; negation = e .negation }
+
+-- a record of two words, visited, pending or equals: all three are tested alike
+abbrev pub pairOf : List ℕ → Pair
+pairOf ws = word ws 0 ⊑ word ws 1
 
 -- an attrset's own fields, where they lie inside the field count
 unfoldable pub ownRight : ℕ → ℕ → List Field → Bool

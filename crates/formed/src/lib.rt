@@ -12,14 +12,14 @@ ghost use lib.Dec.{eqb, leb, ltb};
 ghost use Rattle.model.specs.Lists.{isZero, all, allFrom};
 ghost use Rattle.model.specs.Format.{wordEnd, headerWords, idle, variable};
 ghost use Rattle.model.specs.Table.{entryAt, isAt};
-ghost use Rattle.model.specs.Image.{offset, capacity, count, pairOf, recordsOf, table};
+ghost use Rattle.model.specs.Image.{offset, capacity, count, recordsOf, table};
 ghost use Rattle.model.specs.Making.{spreadAt, spreadOf};
 ghost use Rattle.model.specs.Formed.{regionEnd, restZero, isEntry, pairRight, breakRight, oneComponent, twoComponents, hasDynamicType, kindKnown, primitiveKnown, componentsBelow, unusedZero, flagsKnown, spreadRight, negationKnown, fieldsRight, fieldRight, boundRight, recordsRight, wellFormed};
 ghost use Rattle.model.specs.Calls.{admission};
 ghost use Rattle.image.specs.Laid.{Laid};
 ghost use Rattle.image.specs.Shown.{storeOf, entriesOf, fieldsIn, boundsAll};
 ghost use Rattle.image.specs.Records.{fieldAt, boundAt};
-ghost use Rattle.formed.specs.Grouped.{headerRight, regionLaid, regionsLaid, RegionInside, restsZero, entryTold, ownRight, entryRightIn};
+ghost use Rattle.formed.specs.Grouped.{headerRight, regionLaid, regionsLaid, RegionInside, restsZero, entryTold, pairOf, ownRight, entryRightIn};
 
 // The regions, as lengths. Region k has its offset, capacity and count at 6, 7 and 8 + 3k.
 const ENTRIES: usize = image::ENTRIES as usize;

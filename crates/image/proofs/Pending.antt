@@ -1,58 +1,52 @@
--- The pending pairs of words that show a table, with the state word; the break and the level, which are words of the header alone. Assumes nothing.
-use borrow.Author.Tests.{ne-eqb}
-use Prim.Native.Nat.{ℕ, suc, _+_, _-_, _*_, _≤_, _<_}
+-- The state word, which the question's doors write; the break and the level, which are words of the header alone; and pending
+-- pairs taken off one by one. Assumes nothing.
+use Prim.Native.Nat.{ℕ, _-_, _≤_, _<_}
 use native.Mathlib.Omega.{arith}
 use mathlib.Core.Path.{_≡_, refl, sym, ap, _∙_, subst}
-use mathlib.Core.List.{List, [], _∷_, _++_}
-use mathlib.Core.Bool.{cond}
-use lib.ListN.{length, set, take, replicate}
-use lib.Seq.{sets, length-sets, getD-set-same, length-take-le}
-use Rattle.model.specs.Lists.{isZero}
-use Rattle.model.specs.Format.{idle, asked}
-use Rattle.model.specs.Table.{Pair, _⊑_, Break, Store, Table, tableOf, stateOf, withBroken, withLevel}
-use Rattle.model.specs.Image.{header, words, word}
-use Rattle.laws.proofs.Regions.{pair-coded}
+use mathlib.Core.List.{List, [], _∷_}
+use lib.ListN.{length, set, take, length-set}
+use lib.Seq.{length-take-le}
+use Rattle.model.specs.Format.{stateAt, idle, asked}
+use Rattle.model.specs.Table.{Pair, Break, Store, Table, tableOf, stateOf, withBroken, withLevel}
+use Rattle.model.specs.Image.{header, words, table, word, imageLength}
 use Rattle.laws.proofs.Round.{words-length}
-use Rattle.image.specs.Shown.{Shows, Shown, storeOf, pendingIn, pendingTo, brokenTo, levelTo}
-use Rattle.image.specs.Stores.{appended, removed}
-use Rattle.image.proofs.Laying.{seen}
-use Rattle.image.proofs.Places.{facts, more-length, become, part-pushed, part-popped, pending-part}
+use Rattle.image.specs.Shown.{Shows, Shown, ShowsAs, ShownAs, storeOf, pendingIn, pendingTo, brokenTo, levelTo}
+use Rattle.image.proofs.Laying.{with-state, seen-as}
+use Rattle.image.proofs.Places.{facts-as}
 
-state-more : (l : List Pair) (p : Pair) → stateOf (l ++ (p ∷ [])) ≡ asked
+pub state-asked : (l : List Pair) → 0 < length l → stateOf l ≡ asked
 unfolding stateOf
-state-more [] p = refl
-state-more (q ∷ l) p = refl
+state-asked [] h = absurd (omega arith)
+state-asked (p ∷ l) h = refl
 
-state-counted : (l : List Pair) → stateOf l ≡ cond (isZero (length l)) idle asked
+pub state-idle : (l : List Pair) → length l ≤ 0 → stateOf l ≡ idle
 unfolding stateOf
-state-counted [] = refl
-state-counted (p ∷ l) = rw (ne-eqb (suc (length l)) 0 (λ (e : suc (length l) ≡ 0). let z : ⊥ = omega arith in z))
+state-idle [] h = refl
+state-idle (p ∷ l) h = absurd (omega arith)
+
+module _ {w : List ℕ} {t : Table} (s : Shows w t) where
+  -- the state word of words that show a table
+  pub while-asked : 0 < length (t .pending) → ShowsAs asked w t
+  while-asked h = subst (λ (k : ℕ). ShowsAs k w t) (state-asked (t .pending) h) (with-state s)
+
+  pub while-idle : length (t .pending) ≤ 0 → ShowsAs idle w t
+  while-idle h = subst (λ (k : ℕ). ShowsAs k w t) (state-idle (t .pending) h) (with-state s)
+
+module _ {state : ℕ} {w : List ℕ} {t : Table} (s : ShowsAs state w t) where
+  -- it is the table's already, or is written
+  pub state-right : stateOf (t .pending) ≡ state → Shows w t
+  unfolding words header
+  state-right e = record { within = s .within; is = s .is ∙ ap (λ (k : ℕ). set (words t) stateAt k) (sym e) }
+
+  pub state-put : (new : ℕ) → stateOf (t .pending) ≡ new → Shows (set w stateAt new) t
+  unfolding words header
+  state-put new e = record { within = s .within; is = ap (λ (v : List ℕ). set v stateAt new) (s .is) ∙ ap (λ (k : ℕ). set (words t) stateAt k) (sym e) }
+
+-- a question opened or ended: the table shown is the one that stood there
+pub stated : {state : ℕ} {v w : List ℕ} {t : Table} → ShowsAs state v t → Shows w (table v) → Shows w t
+stated {w = w} a s = subst (λ (u : Table). Shows w u) (seen-as a) s
 
 module _ (w : List ℕ) (s : Shown w) where
-  pub pending-pushed : (a b : ℕ) → length (pendingIn w) < storeOf w .capacities .pending
-      → Shows (set (appended w 21 23 2 (a ∷ b ∷ [])) 1 1) (pendingTo w (pendingIn w ++ ((a ⊑ b) ∷ [])))
-  pending-pushed a b h =
-      let l = pendingIn w ++ ((a ⊑ b) ∷ []) in
-      let v : List ℕ = sets w (word w 21 + 2 * word w 23) (a ∷ b ∷ []) in
-      let n : word w 23 + 1 ≡ length l = sym (more-length (pendingIn w) (a ⊑ b) ∙ ap (λ (k : ℕ). k + 1) (facts s .pending)) in
-      become
-      (ap (λ (k : ℕ). set (set v 23 k) 1 1) n ∙ ap (λ (k : ℕ). set (set v 23 (length l)) 1 k) (sym (state-more (pendingIn w) (a ⊑ b))))
-      (part-pushed pair-coded (pending-part w s) (a ⊑ b) h)
-
-  pub pending-popped : (v : List ℕ) → v ≡ removed w 21 23 2 → 0 < length (pendingIn w)
-      → Shows (set v 1 (cond (isZero (word v 23)) idle asked)) (pendingTo w (take (length (pendingIn w) - 1) (pendingIn w)))
-  pending-popped v e h =
-      let f = facts s in
-      let l = take (length (pendingIn w) - 1) (pendingIn w) in
-      let z : List ℕ = sets w (word w 21 + 2 * (word w 23 - 1)) (replicate 2 0) in
-      let size : 23 < length z = rw (length-sets w (word w 21 + 2 * (word w 23 - 1)) (replicate 2 0)) (omega arith) in
-      let n : word w 23 - 1 ≡ length l = sym (length-take-le (length (pendingIn w) - 1) (pendingIn w) (omega arith) ∙ ap (λ (k : ℕ). k - 1) (f .pending)) in
-      let m : word v 23 ≡ length l = ap (λ (x : List ℕ). word x 23) e ∙ getD-set-same z 23 (word w 23 - 1) 0 size ∙ n in
-      become
-      (ap (λ (k : ℕ). set v 1 (cond (isZero k) idle asked)) m ∙ ap (λ (k : ℕ). set v 1 k) (sym (state-counted l))
-      ∙ ap (λ (x : List ℕ). set x 1 (stateOf l)) (e ∙ ap (λ (k : ℕ). set z 23 k) n))
-      (part-popped pair-coded (pending-part w s) (0 ⊑ 0) h)
-
   pub shows-broken : (b : Break) → Shows (set (set (set (set w 2 (b .kind)) 3 (b .sub)) 4 (b .sup)) 5 (b .name)) (brokenTo w b)
   unfolding words header withBroken
   shows-broken b =
@@ -80,44 +74,49 @@ module _ (w : List ℕ) (s : Shown w) where
       }
 
 -- words of one length: those that show tables with the same capacities
+module _ {j k : ℕ} {v w : List ℕ} {t u : Table} (a : ShowsAs j v t) (b : ShowsAs k w u) where
+  size-as : {state : ℕ} {x : List ℕ} {y : Table} → ShowsAs state x y → length x ≡ imageLength (y .store .capacities)
+  size-as {state} {x} {y} s = ap length (s .is) ∙ length-set (words y) stateAt state ∙ words-length y (s .within .held) (s .within .pending)
+
+  pub same-size-as : t .store .capacities ≡ u .store .capacities → length v ≡ length w
+  same-size-as e = size-as a ∙ ap imageLength e ∙ sym (size-as b)
+
 pub same-size : {v w : List ℕ} {t u : Table} → Shows v t → Shows w u → t .store .capacities ≡ u .store .capacities → length v ≡ length w
-same-size {v} {w} {t} {u} a b e =
-    ap length (a .is) ∙ words-length t (a .within .held) (a .within .pending)
-    ∙ rw e (sym (ap length (b .is) ∙ words-length u (b .within .held) (b .within .pending)))
+same-size a b e = same-size-as (with-state a) (with-state b) e
 
 -- while pending pairs are taken off, the rest stays as it was
 pub record Emptying (w₀ w : List ℕ) : Type 0 where
-  pub shows : Shows w (pendingTo w₀ (pendingIn w))
+  pub shows : ShowsAs asked w (pendingTo w₀ (pendingIn w))
 
-pub emptying-start : {w : List ℕ} → Shown w → Emptying w w
+pub emptying-start : {w : List ℕ} → ShownAs asked w → Emptying w w
 emptying-start s = record { shows = s }
 
 module _ {w₀ w : List ℕ} (e : Emptying w₀ w) where
   store : storeOf w ≡ storeOf w₀
-  store = ap (λ (t : Table). t .store) (seen (e .shows))
+  store = ap (λ (t : Table). t .store) (seen-as (e .shows))
 
-  module _ {v : List ℕ} (s : Shows v (pendingTo w (take (length (pendingIn w) - 1) (pendingIn w)))) where
+  module _ {v : List ℕ} (s : ShowsAs asked v (pendingTo w (take (length (pendingIn w) - 1) (pendingIn w)))) where
     left : pendingIn v ≡ take (length (pendingIn w) - 1) (pendingIn w)
-    left = ap (λ (t : Table). t .pending) (seen s)
+    left = ap (λ (t : Table). t .pending) (seen-as s)
 
     pub emptying-more : Emptying w₀ v
-    emptying-more = record { shows = subst (λ (ps : List Pair). Shows v (pendingTo w₀ ps)) (sym left) (subst (λ (x : Store). Shows v (tableOf x (take (length (pendingIn w) - 1) (pendingIn w)))) store s) }
+    emptying-more = record { shows = subst (λ (ps : List Pair). ShowsAs asked v (pendingTo w₀ ps)) (sym left) (subst (λ (x : Store). ShowsAs asked v (tableOf x (take (length (pendingIn w) - 1) (pendingIn w)))) store s) }
 
     pub emptying-less : 0 < word w 23 → word v 23 < word w 23
     emptying-less h =
-        let f = facts s in
-        let g = facts (e .shows) in
+        let f = facts-as s in
+        let g = facts-as (e .shows) in
         let n = ap length left ∙ length-take-le (length (pendingIn w) - 1) (pendingIn w) (omega arith) in
         omega arith
 
-  pub emptying-end : word w 23 ≤ 0 → Shows w (pendingTo w₀ [])
+  pub emptying-end : word w 23 ≤ 0 → ShowsAs asked w (pendingTo w₀ [])
   emptying-end h =
-      let f = facts (e .shows) in
-      subst (λ (ps : List Pair). Shows w (pendingTo w₀ ps)) (none (pendingIn w) (omega arith)) (e .shows)
+      let f = facts-as (e .shows) in
+      subst (λ (ps : List Pair). ShowsAs asked w (pendingTo w₀ ps)) (none (pendingIn w) (omega arith)) (e .shows)
     where
       none : (l : List Pair) → length l ≤ 0 → l ≡ []
       none [] k = refl
       none (p ∷ l) k = absurd (omega arith)
 
-  pub emptying-size : Shown w₀ → length w ≡ length w₀
-  emptying-size s = same-size (e .shows) s refl
+  pub emptying-size : ShownAs asked w₀ → length w ≡ length w₀
+  emptying-size s = same-size-as (e .shows) s refl

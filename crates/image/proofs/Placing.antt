@@ -8,8 +8,7 @@ use mathlib.Core.List.{List, [], _∷_, _++_, append-assoc, append-nil}
 use lib.ListN.{length, getD, set, take, drop, replicate, length-append, length-set, length-replicate}
 use lib.Seq.{sets, sets-eq, set-append-left, take-append-seam, drop-append-add, drop-at, split-at, set-split, length-take-le}
 use Rattle.model.specs.Lists.{flat}
-use Rattle.model.specs.Table.{Table}
-use Rattle.model.specs.Image.{blanks, region, words}
+use Rattle.model.specs.Image.{blanks, region}
 use Rattle.laws.proofs.Regions.{Coded, flat-length}
 
 -- stores behind a list
@@ -27,13 +26,13 @@ unfolding flat
 flat-append f [] m = refl
 flat-append f (a ∷ l) m = rw (flat-append f l m) (sym (append-assoc (f a) (flat f l) (flat f m)))
 
--- Where a region stands: `to` gives the table for each list of its records, and `counted` is what the header takes for it.
-pub record Place {A : Type 0} (f : A → List ℕ) (width at capacity : ℕ) (to : List A → Table) (counted : List A → List ℕ → List ℕ) : Type 0 where
+-- Where a region stands: `by` gives the words for each list of its records, and the header has their count at word `counter`.
+pub record Place {A : Type 0} (f : A → List ℕ) (width at capacity : ℕ) (by : List A → List ℕ) (counter : ℕ) : Type 0 where
   pub before : List A → List ℕ
   pub after : List ℕ
   pub starts : (l : List A) → length (before l) ≡ at
-  pub is : (l : List A) → words (to l) ≡ before l ++ (region f width capacity l ++ after)
-  pub recount : (l m : List A) (x : List ℕ) → counted m (before l ++ x) ≡ before m ++ x
+  pub is : (l : List A) → by l ≡ before l ++ (region f width capacity l ++ after)
+  pub recount : (l m : List A) (x : List ℕ) → set (before l ++ x) counter (length m) ≡ before m ++ x
 
 module _ {A : Type 0} {f : A → List ℕ} {of : List ℕ → A} {width : ℕ} (c : Coded f of width) where
   -- a region, opened at its first free record, at its last record, and at any record
@@ -65,31 +64,31 @@ module _ {A : Type 0} {f : A → List ℕ} {of : List ℕ → A} {width : ℕ} (
       rw (← append-assoc p (flat f l) (q ++ z), ← append-assoc p (flat f l) (v ++ z))
       (sets-at (p ++ flat f l) q z v (at + width * length l) (lead p l at (length l) h refl) e)
 
-  module _ {at capacity : ℕ} {to : List A → Table} {counted : List A → List ℕ → List ℕ} (p : Place f width at capacity to counted) where
+  module _ {at capacity counter : ℕ} {by : List A → List ℕ} (p : Place f width at capacity by counter) where
     -- a record put behind the last
     pub pushed : (l : List A) (a : A) → length l < capacity
-        → counted (l ++ (a ∷ [])) (sets (words (to l)) (at + width * length l) (f a)) ≡ words (to (l ++ (a ∷ [])))
+        → set (sets (by l) (at + width * length l) (f a)) counter (length (l ++ (a ∷ []))) ≡ by (l ++ (a ∷ []))
     pushed l a h =
         let r = p .after in
         let z = blanks width (capacity - (length l + 1)) ++ r in
         rw (p .is l, p .is (l ++ (a ∷ [])), at-free capacity l r h, at-last capacity l a r)
-        (ap (λ (w : List ℕ). counted (l ++ (a ∷ [])) w) (over (p .before l) (replicate width 0) z (f a) l at (p .starts l) (length-replicate width 0 ∙ sym (c .wide a)))
+        (ap (λ (w : List ℕ). set w counter (length (l ++ (a ∷ [])))) (over (p .before l) (replicate width 0) z (f a) l at (p .starts l) (length-replicate width 0 ∙ sym (c .wide a)))
         ∙ p .recount l (l ++ (a ∷ [])) (flat f l ++ (f a ++ z)))
 
     -- the last record taken off
     pub popped : (l : List A) (a : A) → length l < capacity
-        → counted l (sets (words (to (l ++ (a ∷ [])))) (at + width * length l) (replicate width 0)) ≡ words (to l)
+        → set (sets (by (l ++ (a ∷ []))) (at + width * length l) (replicate width 0)) counter (length l) ≡ by l
     popped l a h =
         let r = p .after in
         let m = l ++ (a ∷ []) in
         let z = blanks width (capacity - (length l + 1)) ++ r in
         rw (p .is l, p .is m, at-free capacity l r h, at-last capacity l a r)
-        (ap (λ (w : List ℕ). counted l w) (over (p .before m) (f a) z (replicate width 0) l at (p .starts m) (c .wide a ∙ sym (length-replicate width 0)))
+        (ap (λ (w : List ℕ). set w counter (length l)) (over (p .before m) (f a) z (replicate width 0) l at (p .starts m) (c .wide a ∙ sym (length-replicate width 0)))
         ∙ p .recount m l (flat f l ++ (replicate width 0 ++ z)))
 
     -- word j of record i changed
     pub put : (l : List A) (i j v : ℕ) (b d : A) → i < length l → j < width → f b ≡ set (f (getD l i d)) j v → p .before (set l i b) ≡ p .before l
-        → set (words (to l)) (at + width * i + j) v ≡ words (to (set l i b))
+        → set (by l) (at + width * i + j) v ≡ by (set l i b)
     put l i j v b d h k e same =
         let r = p .after in
         let q = p .before l in
@@ -101,9 +100,9 @@ module _ {A : Type 0} {f : A → List ℕ} {of : List ℕ → A} {width : ℕ} (
         let old : l ≡ x = split-at l i d h in
         let new : set l i b ≡ y = set-split l i b h in
         let size : length y ≡ length l = ap length (sym new) ∙ length-set l i b in
-        let from : words (to l) ≡ q ++ flat f front ++ (f (getD l i d) ++ z) =
+        let from : by l ≡ q ++ flat f front ++ (f (getD l i d) ++ z) =
         p .is l ∙ ap (λ (m : List ℕ). q ++ m) (ap (λ (m : List A). region f width capacity m ++ r) old ∙ at-record capacity front (drop (suc i) l) (getD l i d) r ∙ rw (← old)) ∙ sym (append-assoc q (flat f front) (f (getD l i d) ++ z)) in
-        let into : words (to (set l i b)) ≡ q ++ flat f front ++ (f b ++ z) =
+        let into : by (set l i b) ≡ q ++ flat f front ++ (f b ++ z) =
         p .is (set l i b) ∙ rw (same, new) (ap (λ (m : List ℕ). q ++ m) (at-record capacity front (drop (suc i) l) b r ∙ rw size) ∙ sym (append-assoc q (flat f front) (f b ++ z))) in
         let at-it : at + width * i ≡ length (q ++ flat f front) = sym (lead q front at i (p .starts l) n) in
         rw (from, into, at-it, set-right (q ++ flat f front) (f (getD l i d) ++ z) j v, set-append-left (f (getD l i d)) z j v (rw (c .wide (getD l i d)) k), e)

@@ -9,12 +9,12 @@ use lib.Seq.{getD-take, getD-drop, drop-drop}
 use Rattle.model.specs.Lists.{readMany}
 use Rattle.model.specs.Format.{entryWidth, fieldWidth, boundWidth, visitedWidth, pendingWidth, equalsWidth, entriesRegion, fieldsRegion, boundsRegion, visitedRegion, pendingRegion, equalsRegion}
 use Rattle.model.specs.Table.{entryAt}
-use Rattle.model.specs.Image.{word, offset, count, recordsOf, table, entryWords, fieldWords, boundWords, pairWords, entryOf, fieldOf, boundOf, pairOf}
-use Rattle.laws.proofs.Regions.{Coded, entry-coded, field-coded, bound-coded, pair-coded}
+use Rattle.model.specs.Image.{word, offset, count, recordsOf, table, entryWords, fieldWords, boundWords, visitedWords, pendingWords, equalWords, entryOf, fieldOf, boundOf, visitedOf, pendingOf, equalOf}
+use Rattle.laws.proofs.Regions.{Coded, entry-coded, field-coded, bound-coded, visited-coded, pending-coded, equal-coded}
 use Rattle.laws.proofs.Round.{records-length}
 use Rattle.image.specs.Laid.{Laid}
 use Rattle.image.specs.Shown.{entriesOf, fieldsIn, boundsAll, visitedIn, pendingIn, equalsIn}
-use Rattle.image.specs.Records.{fieldAt, boundAt, pairAt}
+use Rattle.image.specs.Records.{fieldAt, boundAt, visitedAt, pendingAt, equalAt}
 
 module _ {A : Type 0} (of : List ℕ → A) (width : ℕ) where
   pub read-at : (n : ℕ) (l : List ℕ) (i : ℕ) (d : A) → i < n → getD (readMany of (drop width) n l) i d ≡ of (drop (width * i) l)
@@ -56,15 +56,15 @@ bounds-count w = records-length boundOf boundWidth w boundsRegion
 
 pub visited-count : (w : List ℕ) → length (visitedIn w) ≡ count w visitedRegion
 unfolding table
-visited-count w = records-length pairOf visitedWidth w visitedRegion
+visited-count w = records-length visitedOf visitedWidth w visitedRegion
 
 pub pending-count : (w : List ℕ) → length (pendingIn w) ≡ count w pendingRegion
 unfolding table
-pending-count w = records-length pairOf pendingWidth w pendingRegion
+pending-count w = records-length pendingOf pendingWidth w pendingRegion
 
 pub equals-count : (w : List ℕ) → length (equalsIn w) ≡ count w equalsRegion
 unfolding table
-equals-count w = records-length pairOf equalsWidth w equalsRegion
+equals-count w = records-length equalOf equalsWidth w equalsRegion
 
 -- a word of a record, by its region
 module _ (w : List ℕ) (l : Laid w) (i j : ℕ) where
@@ -87,20 +87,20 @@ module _ (w : List ℕ) (l : Laid w) (i j : ℕ) where
       let n = bounds-count w in
       record-word bound-coded w boundsRegion i j _ (omega arith) jt (omega (arith, l .bounds .held, l .visited .starts, l .pending .starts, l .equals .starts, l .end))
 
-  pub visited-word : i < length (visitedIn w) → j < 2 → word (pairWords (pairAt (visitedIn w) i)) j ≡ word w (offset w visitedRegion + 2 * i + j)
+  pub visited-word : i < length (visitedIn w) → j < 2 → word (visitedWords (visitedAt (visitedIn w) i)) j ≡ word w (offset w visitedRegion + 2 * i + j)
   unfolding table
   visited-word h jt =
       let n = visited-count w in
-      record-word pair-coded w visitedRegion i j _ (omega arith) jt (omega (arith, l .visited .held, l .pending .starts, l .equals .starts, l .end))
+      record-word visited-coded w visitedRegion i j _ (omega arith) jt (omega (arith, l .visited .held, l .pending .starts, l .equals .starts, l .end))
 
-  pub pending-word : i < length (pendingIn w) → j < 2 → word (pairWords (pairAt (pendingIn w) i)) j ≡ word w (offset w pendingRegion + 2 * i + j)
+  pub pending-word : i < length (pendingIn w) → j < 2 → word (pendingWords (pendingAt (pendingIn w) i)) j ≡ word w (offset w pendingRegion + 2 * i + j)
   unfolding table
   pending-word h jt =
       let n = pending-count w in
-      record-word pair-coded w pendingRegion i j _ (omega arith) jt (omega (arith, l .pending .held, l .equals .starts, l .end))
+      record-word pending-coded w pendingRegion i j _ (omega arith) jt (omega (arith, l .pending .held, l .equals .starts, l .end))
 
-  pub equal-word : i < length (equalsIn w) → j < 2 → word (pairWords (pairAt (equalsIn w) i)) j ≡ word w (offset w equalsRegion + 2 * i + j)
+  pub equal-word : i < length (equalsIn w) → j < 2 → word (equalWords (equalAt (equalsIn w) i)) j ≡ word w (offset w equalsRegion + 2 * i + j)
   unfolding table
   equal-word h jt =
       let n = equals-count w in
-      record-word pair-coded w equalsRegion i j _ (omega arith) jt (omega (arith, l .equals .held, l .end))
+      record-word equal-coded w equalsRegion i j _ (omega arith) jt (omega (arith, l .equals .held, l .end))

@@ -13,7 +13,7 @@ use borrow.Author.Tests.{eq-eqb, ne-eqb, eqb-true, eqb-false}
 use Rattle.model.specs.Format.{wordEnd}
 use Rattle.model.specs.Lists.{any, readMany}
 use Rattle.model.specs.Table.{Pair, _⊑_}
-use Rattle.model.specs.Image.{word, pairOf, recordsOf, table}
+use Rattle.model.specs.Image.{word, visitedOf, recordsOf, table}
 use Rattle.model.specs.Rules.{samePair, isVisited}
 use Rattle.laws.proofs.Regions.{read-length}
 use Rattle.image.specs.Shown.{storeOf}
@@ -67,20 +67,20 @@ joined x y a b hx ha = on (eqb a x) refl (eqb b y) refl
     on true e false f = rw (e, f) (ne-eqb (x + y * wordEnd) (a + b * wordEnd) (λ h. eqb-false b y f (omega (arith, h, eqb-true a x e))))
     on false e t f = rw e (ne-eqb (x + y * wordEnd) (a + b * wordEnd) (λ h. eqb-false a x e (omega (arith, h, hx, ha))))
 
--- pair i of a region, compared so
+-- visited pair i, compared so
 module _ (l : List ℕ) (i a b : ℕ) (hx : getD l (2 * i) 0 < wordEnd) (ha : a < wordEnd) where
-  same-by : eqb (getD l (2 * i) 0 + getD l (2 * i + 1) 0 * wordEnd) (a + b * wordEnd) ≡ samePair (a ⊑ b) (pairOf (drop (2 * i) l))
-  unfolding samePair pairOf
+  same-by : eqb (getD l (2 * i) 0 + getD l (2 * i + 1) 0 * wordEnd) (a + b * wordEnd) ≡ samePair (a ⊑ b) (visitedOf (drop (2 * i) l))
+  unfolding samePair visitedOf
   same-by = joined (getD l (2 * i) 0) (getD l (2 * i + 1) 0) a b hx ha ∙ rw (getD-drop (2 * i) l 0 0, getD-drop (2 * i) l 1 0, add-zero (2 * i))
 
-  pub is-same : (j k : ℕ) → j ≡ getD l (2 * i) 0 + getD l (2 * i + 1) 0 * wordEnd → k ≡ a + b * wordEnd → j ≡ k → samePair (a ⊑ b) (pairOf (drop (2 * i) l)) ≡ true
+  pub is-same : (j k : ℕ) → j ≡ getD l (2 * i) 0 + getD l (2 * i + 1) 0 * wordEnd → k ≡ a + b * wordEnd → j ≡ k → samePair (a ⊑ b) (visitedOf (drop (2 * i) l)) ≡ true
   is-same j k p q e = sym same-by ∙ eq-eqb _ _ (sym p ∙ e ∙ q)
 
-  pub is-other : (j k : ℕ) → j ≡ getD l (2 * i) 0 + getD l (2 * i + 1) 0 * wordEnd → k ≡ a + b * wordEnd → (j ≡ k → ⊥) → samePair (a ⊑ b) (pairOf (drop (2 * i) l)) ≡ false
+  pub is-other : (j k : ℕ) → j ≡ getD l (2 * i) 0 + getD l (2 * i + 1) 0 * wordEnd → k ≡ a + b * wordEnd → (j ≡ k → ⊥) → samePair (a ⊑ b) (visitedOf (drop (2 * i) l)) ≡ false
   is-other j k p q e = sym same-by ∙ ne-eqb _ _ (λ h. e (p ∙ h ∙ sym q))
 
 -- the search through the lent part from a word on, which is the visited pairs' offset
 pub visited-by : (w : List ℕ) (p : Pair) (at n : ℕ) → at ≡ word w 18 → n ≡ word w 20
-    → any (samePair p) (readMany pairOf (drop 2) n (take (length w - at) (drop at w))) ≡ isVisited (storeOf w) p
+    → any (samePair p) (readMany visitedOf (drop 2) n (take (length w - at) (drop at w))) ≡ isVisited (storeOf w) p
 unfolding isVisited table recordsOf
 visited-by w p at n e f = rw (tail-part w at, e, f)

@@ -20,8 +20,14 @@ fieldAt fs i = getD fs i (record { name = 0; entry = 0; optional = 0 })
 abbrev pub boundAt : List Bound → ℕ → Bound
 boundAt bs i = getD bs i (record { variable = 0; side = 0; bound = 0 })
 
-abbrev pub pairAt : List Pair → ℕ → Pair
-pairAt ps i = getD ps i (0 ⊑ 0)
+abbrev pub visitedAt : List Pair → ℕ → Pair
+visitedAt ps i = getD ps i (0 ⊑ 0)
+
+abbrev pub pendingAt : List Pair → ℕ → Pair
+pendingAt ps i = getD ps i (0 ⊑ 0)
+
+abbrev pub equalAt : List Pair → ℕ → Pair
+equalAt ps i = getD ps i (0 ⊑ 0)
 
 abbrev pub saysMark : ℕ → Bool
 saysMark flags = eqb (flags / markFlag % 2) 1

@@ -2,7 +2,8 @@
 use Prim.Native.Nat.{ℕ, _≤_}
 use mathlib.Core.Path.{_≡_}
 use mathlib.Core.List.{List}
-use lib.ListN.{length}
+use lib.ListN.{length, set}
+use Rattle.model.specs.Format.{stateAt}
 use Rattle.model.specs.Table.{Entry, Field, Bound, Pair, Break, Store, Graph, Table, tableOf, graphOf, withLevel, withBroken, withEntries, withFields, withBounds, withVisited, withEquals}
 use Rattle.model.specs.Image.{words, table}
 use Rattle.laws.specs.Good.{Held, Small}
@@ -13,13 +14,32 @@ pub record Within (t : Table) : Type 0 where
   pub pending : length (t .pending) ≤ t .store .capacities .pending
   pub small : Small (t .store .capacities)
 
-pub record Shows (w : List ℕ) (t : Table) : Type 0 where
+-- the state word among a table's words: the table's own; or a given one, which stands while a question's pairs are put on pending (idle)
+-- and in the midst of a step (asked)
+pub data StateWord : Type 0 where
+  own : StateWord
+  given : ℕ → StateWord
+
+abbrev pub wordsWith : StateWord → Table → List ℕ
+wordsWith own t = words t
+wordsWith (given state) t = set (words t) stateAt state
+
+pub record ShowsWith (x : StateWord) (w : List ℕ) (t : Table) : Type 0 where
   pub within : Within t
-  pub is : w ≡ words t
+  pub is : w ≡ wordsWith x t
+
+abbrev pub Shows : List ℕ → Table → Type 0
+Shows w t = ShowsWith own w t
+
+abbrev pub ShowsAs : ℕ → List ℕ → Table → Type 0
+ShowsAs state w t = ShowsWith (given state) w t
 
 -- the words show the table that is read off them
 abbrev pub Shown : List ℕ → Type 0
 Shown w = Shows w (table w)
+
+abbrev pub ShownAs : ℕ → List ℕ → Type 0
+ShownAs state w = ShowsAs state w (table w)
 
 -- what is read off words
 abbrev pub storeOf : List ℕ → Store

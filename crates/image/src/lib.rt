@@ -15,17 +15,17 @@ ghost use lib.Seq.{sets};
 ghost use Rattle.model.specs.Format.{wordEnd, formatAt, formatWord, namesAt, functorAt, idle, asked, entryWidth, fieldWidth, boundWidth, visitedWidth, pendingWidth, equalsWidth};
 ghost use Rattle.model.specs.Lists.{isZero, any, readMany};
 ghost use Rattle.model.specs.Table.{_⊑_, entryAt, isAsked};
-ghost use Rattle.model.specs.Image.{word, count, table, imageLength, pairOf, entryWords, fieldWords, boundWords, pairWords};
+ghost use Rattle.model.specs.Image.{word, count, table, imageLength, visitedOf, entryWords, fieldWords, boundWords, visitedWords, pendingWords, equalWords};
 ghost use Rattle.model.specs.Making.{changed, withNegation, withMark};
 ghost use Rattle.model.specs.Calls.{readOut, withX, capacitiesRight, start as startOf};
 ghost use Rattle.model.specs.Rules.{samePair, isVisited};
 ghost use Rattle.model.specs.Told.{toldReply};
 ghost use Rattle.laws.specs.Good.{Small};
 ghost use Rattle.image.specs.Laid.{Laid};
-ghost use Rattle.image.specs.Shown.{Shows, Shown, storeOf, entriesOf, fieldsIn, boundsAll, visitedIn, pendingIn, equalsIn};
+ghost use Rattle.image.specs.Shown.{Shows, Shown, ShowsAs, ShownAs, storeOf, entriesOf, fieldsIn, boundsAll, visitedIn, pendingIn, equalsIn};
 ghost use Rattle.image.specs.Shown.{entriesTo, fieldsTo, boundsTo, visitedTo, pendingTo, equalsTo, brokenTo, levelTo};
 ghost use Rattle.image.specs.Stores.{Room, appended, Last, removed, capacitiesOf, smallOnes, headed};
-ghost use Rattle.image.specs.Records.{entryMade, fieldAt, boundAt, pairAt, saysMark, saysOpen, saysDynamic, dynamicRead, attrsetRead};
+ghost use Rattle.image.specs.Records.{entryMade, fieldAt, boundAt, visitedAt, pendingAt, equalAt, saysMark, saysOpen, saysDynamic, dynamicRead, attrsetRead};
 
 // How many records each region takes.
 pub struct Capacities {
@@ -166,10 +166,18 @@ pub const SIDE_WORD: usize = 1;
 
 pub const BOUND_WORD: usize = 2;
 
-// The words of a pair, visited, pending or equal.
-pub const SUB_WORD: usize = 0;
+// Where a visited record has its words, a pending one, and one of equals.
+pub const VISITED_SUB_WORD: usize = 0;
 
-pub const SUP_WORD: usize = 1;
+pub const VISITED_SUP_WORD: usize = 1;
+
+pub const PENDING_SUB_WORD: usize = 0;
+
+pub const PENDING_SUP_WORD: usize = 1;
+
+pub const EQUAL_LEFT_WORD: usize = 0;
+
+pub const EQUAL_RIGHT_WORD: usize = 1;
 
 // Kinds.
 pub const VARIABLE: u32 = 0;
@@ -414,7 +422,7 @@ pub fn visited_word(image: &[u32], i: u32, j: usize) -> u32
     requires { ⌜ Laid (now image) ⌝ }
     requires { ⌜ i < length (visitedIn (now image)) ⌝ }
     requires { ⌜ j < visitedWidth ⌝ }
-    ensures { λ r. ⌜ r ≡ word (pairWords (pairAt (visitedIn (now (image .entry))) i)) j ⌝ }
+    ensures { λ r. ⌜ r ≡ word (visitedWords (visitedAt (visitedIn (now (image .entry))) i)) j ⌝ }
 {
     image[wide(image[VISITED_OFFSET_AT]) + VISITED_WIDTH * wide(i) + j]
 }
@@ -424,7 +432,7 @@ pub fn pending_word(image: &[u32], i: u32, j: usize) -> u32
     requires { ⌜ Laid (now image) ⌝ }
     requires { ⌜ i < length (pendingIn (now image)) ⌝ }
     requires { ⌜ j < pendingWidth ⌝ }
-    ensures { λ r. ⌜ r ≡ word (pairWords (pairAt (pendingIn (now (image .entry))) i)) j ⌝ }
+    ensures { λ r. ⌜ r ≡ word (pendingWords (pendingAt (pendingIn (now (image .entry))) i)) j ⌝ }
 {
     image[wide(image[PENDING_OFFSET_AT]) + PENDING_WIDTH * wide(i) + j]
 }
@@ -434,7 +442,7 @@ pub fn equal_word(image: &[u32], i: u32, j: usize) -> u32
     requires { ⌜ Laid (now image) ⌝ }
     requires { ⌜ i < length (equalsIn (now image)) ⌝ }
     requires { ⌜ j < equalsWidth ⌝ }
-    ensures { λ r. ⌜ r ≡ word (pairWords (pairAt (equalsIn (now (image .entry))) i)) j ⌝ }
+    ensures { λ r. ⌜ r ≡ word (equalWords (equalAt (equalsIn (now (image .entry))) i)) j ⌝ }
 {
     image[wide(image[EQUALS_OFFSET_AT]) + EQUALS_WIDTH * wide(i) + j]
 }
@@ -708,41 +716,72 @@ pub fn push_equal(image: &mut [u32], left: u32, right: u32)
     append_pair(image, EQUALS_OFFSET_AT, EQUALS_COUNT_AT, left, right);
 }
 
-// Puts a pair behind the last pending one, and the state to asked.
-pub fn push_pending(image: &mut [u32], sub: u32, sup: u32)
-    requires { ⌜ Shown (now image) ⌝ }
+// The state word is written where a question is opened and where it is ended, and nowhere else: what puts pairs on pending and takes
+// them off leaves it.
+
+// Puts a question's own pair behind the last pending one.
+pub fn put_asked(image: &mut [u32], sub: u32, sup: u32)
+    requires { ⌜ ShownAs idle (now image) ⌝ }
     requires { ⌜ length (pendingIn (now image)) < storeOf (now image) .capacities .pending ⌝ }
-    ensures { λ _. ⌜ Shows (now (image .exit)) (pendingTo (now (image .entry)) (pendingIn (now (image .entry)) ++ ((sub ⊑ sup) ∷ []))) ⌝ }
+    ensures { λ _. ⌜ ShowsAs idle (now (image .exit)) (pendingTo (now (image .entry)) (pendingIn (now (image .entry)) ++ ((sub ⊑ sup) ∷ []))) ⌝ }
 {
     append_pair(image, PENDING_OFFSET_AT, PENDING_COUNT_AT, sub, sup);
+}
+
+// Opens the question whose pairs are pending.
+pub fn open_question(image: &mut [u32])
+    requires { ⌜ ShownAs idle (now image) ⌝ }
+    requires { ⌜ 0 < length (pendingIn (now image)) ⌝ }
+    ensures { λ _. ⌜ Shows (now (image .exit)) (table (now (image .entry))) ⌝ }
+{
     image[STATE_AT] = ASKED;
 }
 
-// The state where n pairs are pending.
-fn state_of(n: u32) -> u32
-    ensures { λ r. ⌜ r ≡ cond (isZero n) idle asked ⌝ }
+// Puts a step's consequence behind the last pending pair.
+pub fn put_consequence(image: &mut [u32], sub: u32, sup: u32)
+    requires { ⌜ ShownAs asked (now image) ⌝ }
+    requires { ⌜ length (pendingIn (now image)) < storeOf (now image) .capacities .pending ⌝ }
+    ensures { λ _. ⌜ ShowsAs asked (now (image .exit)) (pendingTo (now (image .entry)) (pendingIn (now (image .entry)) ++ ((sub ⊑ sup) ∷ []))) ⌝ }
 {
-    if n == 0 { IDLE } else { ASKED }
+    append_pair(image, PENDING_OFFSET_AT, PENDING_COUNT_AT, sub, sup);
 }
 
-// Takes the last pending pair off, and its words with it; the state goes idle with the last of all.
+// Takes the last pending pair off, and its words with it.
 pub fn pop_pending(image: &mut [u32])
-    requires { ⌜ Shown (now image) ⌝ }
+    requires { ⌜ ShownAs asked (now image) ⌝ }
     requires { ⌜ 0 < length (pendingIn (now image)) ⌝ }
-    ensures { λ _. ⌜ Shows (now (image .exit)) (pendingTo (now (image .entry)) (take (length (pendingIn (now (image .entry))) - 1) (pendingIn (now (image .entry))))) ⌝ }
+    ensures { λ _. ⌜ ShowsAs asked (now (image .exit)) (pendingTo (now (image .entry)) (take (length (pendingIn (now (image .entry))) - 1) (pendingIn (now (image .entry))))) ⌝ }
 {
     remove_pair(image, PENDING_OFFSET_AT, PENDING_COUNT_AT);
-    image[STATE_AT] = state_of(image[PENDING_COUNT_AT]);
 }
 
 // Takes every pending pair off.
-pub fn clear_pending(image: &mut [u32])
-    requires { ⌜ Shown (now image) ⌝ }
-    ensures { λ _. ⌜ Shows (now (image .exit)) (pendingTo (now (image .entry)) []) ⌝ }
+fn clear_pending(image: &mut [u32])
+    requires { ⌜ ShownAs asked (now image) ⌝ }
+    ensures { λ _. ⌜ ShowsAs asked (now (image .exit)) (pendingTo (now (image .entry)) []) ⌝ }
 {
     while 0 < image[PENDING_COUNT_AT] {
         pop_pending(image);
     }
+}
+
+// Ends the question, if nothing is pending.
+pub fn end_if_done(image: &mut [u32])
+    requires { ⌜ ShownAs asked (now image) ⌝ }
+    ensures { λ _. ⌜ Shows (now (image .exit)) (table (now (image .entry))) ⌝ }
+{
+    if image[PENDING_COUNT_AT] == 0 {
+        image[STATE_AT] = IDLE;
+    }
+}
+
+// Ends the question, whatever is pending.
+pub fn end_question(image: &mut [u32])
+    requires { ⌜ ShownAs asked (now image) ⌝ }
+    ensures { λ _. ⌜ Shows (now (image .exit)) (pendingTo (now (image .entry)) []) ⌝ }
+{
+    clear_pending(image);
+    end_if_done(image);
 }
 
 // Writes the break words.
@@ -779,10 +818,10 @@ fn join(low: u32, high: u32) -> u64
     low as u64 + high as u64 * WORD_END
 }
 
-// Whether the pair (a, b) is among the first n of a region that is lent from its offset on.
+// Whether the pair (a, b) is among the first n visited ones, lent from their offset on.
 fn has_pair(region: &[u32], n: usize, a: u32, b: u32) -> bool
     requires { ⌜ 2 * n ≤ length (now region) ⌝ }
-    ensures { λ r. ⌜ r ≡ any (samePair (a ⊑ b)) (readMany pairOf (drop 2) n (now (region .entry))) ⌝ }
+    ensures { λ r. ⌜ r ≡ any (samePair (a ⊑ b)) (readMany visitedOf (drop 2) n (now (region .entry))) ⌝ }
 {
     let key = join(a, b);
     let mut i = 0;

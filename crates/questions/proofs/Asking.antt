@@ -26,9 +26,10 @@ use Rattle.laws.proofs.Replies.{refused-by, passed-by}
 use Rattle.laws.proofs.Stores.{by-test}
 use Rattle.laws.proofs.Formed.{sound-table}
 use Rattle.laws.proofs.StepSound.{fitting-enough}
-use Rattle.image.proofs.Laying.{seen}
+use Rattle.image.proofs.Laying.{seen, seen-as, shown}
+use Rattle.image.proofs.Pending.{while-idle}
 use Rattle.questions.specs.Asking.{Roomy, Fitness, worked}
-use Rattle.image.specs.Shown.{Shows, storeOf, entriesOf, pendingIn, pendingTo, equalsTo}
+use Rattle.image.specs.Shown.{Shows, ShowsAs, ShownAs, storeOf, entriesOf, pendingIn, pendingTo, equalsTo}
 
 -- idle: nothing is pending
 idle-empty : (w : List ℕ) → isAsked (table w) ≡ false → pendingIn w ≡ []
@@ -38,6 +39,15 @@ idle-empty w e = by (pendingIn w) e
     by : (l : List Pair) → not (eqb (stateOf l) idle) ≡ false → l ≡ []
     by [] z = refl
     by (p ∷ l) z = absurd (no-test true z tt)
+
+-- asked: something is
+pub asked-some : (w : List ℕ) → isAsked (table w) ≡ true → 0 < length (pendingIn w)
+unfolding isAsked stateOf
+asked-some w e = by (pendingIn w) e
+  where
+    by : (l : List Pair) → not (eqb (stateOf l) idle) ≡ true → 0 < length l
+    by [] z = absurd (no-test true (sym z) tt)
+    by (p ∷ l) z = omega arith
 
 -- the test in code
 pub is-broken : (held t : Bool) (kind : ℕ) (s : Store) → kind ≡ s .broken .kind → (held && not (eqb kind 0)) ≡ t → (held && isBroken s) ≡ t
@@ -191,26 +201,35 @@ module _ (q : Question) where
     pub first-fits : q .equal ≡ true → length (pendingIn w) < storeOf w .capacities .pending
     first-fits e = omega (arith, ap length (two-ways e))
 
-    module _ (v : List ℕ) (put : Shows v (pendingTo w (pendingIn w ++ ((q .right ⊑ q .left) ∷ [])))) where
+    module _ (v : List ℕ) (put : ShowsAs idle v (pendingTo w (pendingIn w ++ ((q .right ⊑ q .left) ∷ [])))) where
       pub second-fits : q .equal ≡ true → length (pendingIn v) < storeOf v .capacities .pending
       second-fits e =
           let k : length (pendingIn w ++ ((q .right ⊑ q .left) ∷ [])) < storeOf w .capacities .pending = simp length-append (omega (arith, ap length (two-ways e))) in
-          subst (λ (t : Table). length (t .pending) < t .store .capacities .pending) (sym (seen put)) k
+          subst (λ (t : Table). length (t .pending) < t .store .capacities .pending) (sym (seen-as put)) k
 
-      pub two-put : (x : List ℕ) → q .equal ≡ true → Shows x (pendingTo v (pendingIn v ++ ((q .left ⊑ q .right) ∷ []))) → Shows x (pendingTo w (pendingIn w ++ pairsOf q))
+      pub two-put : (x : List ℕ) → q .equal ≡ true → ShowsAs idle x (pendingTo v (pendingIn v ++ ((q .left ⊑ q .right) ∷ []))) → ShowsAs idle x (pendingTo w (pendingIn w ++ pairsOf q))
       two-put x e s =
           let a : (pendingIn w ++ ((q .right ⊑ q .left) ∷ [])) ++ ((q .left ⊑ q .right) ∷ []) ≡ pendingIn w ++ pairsOf q
           = append-assoc (pendingIn w) _ _ ∙ ap (λ (l : List Pair). pendingIn w ++ l) (sym (two-ways e)) in
-          let k = subst (λ (t : Table). Shows x (tableOf (t .store) (t .pending ++ ((q .left ⊑ q .right) ∷ [])))) (seen put) s in
-          subst (λ (l : List Pair). Shows x (pendingTo w l)) a k
+          let k = subst (λ (t : Table). ShowsAs idle x (tableOf (t .store) (t .pending ++ ((q .left ⊑ q .right) ∷ [])))) (seen-as put) s in
+          subst (λ (l : List Pair). ShowsAs idle x (pendingTo w l)) a k
 
-  pub one-put : (w v : List ℕ) → q .equal ≡ false → Shows v (pendingTo w (pendingIn w ++ ((q .left ⊑ q .right) ∷ []))) → Shows v (pendingTo w (pendingIn w ++ pairsOf q))
+  pub one-put : (w v : List ℕ) → q .equal ≡ false → ShowsAs idle v (pendingTo w (pendingIn w ++ ((q .left ⊑ q .right) ∷ []))) → ShowsAs idle v (pendingTo w (pendingIn w ++ pairsOf q))
   one-put w v e s = rw (one-way e) s
 
+  pub some-put : (w : List ℕ) {v : List ℕ} → ShowsAs idle v (pendingTo w (pendingIn w ++ pairsOf q)) → 0 < length (pendingIn v)
+  unfolding pairsOf
+  some-put w put =
+      let some : 0 < length (pairsOf q) = by-test (λ (l : List Pair). 0 < length l) (q .equal) (λ h. omega arith) (λ h. omega arith) in
+      omega (arith, ap (λ (t : Table). length (t .pending)) (seen-as put), length-append (pendingIn w) (pairsOf q), some)
+
   -- both, one after the other
-  module _ (w v : List ℕ) (idle : pendingIn w ≡ []) (s : Shows v (tableOf (recorded q (storeOf w)) (pendingIn w))) where
+  module _ (w v : List ℕ) (none : pendingIn w ≡ []) (s : Shows v (tableOf (recorded q (storeOf w)) (pendingIn w))) where
     recorded-seen : table v ≡ tableOf (recorded q (storeOf w)) []
-    recorded-seen = seen s ∙ ap (λ (l : List Pair). tableOf (recorded q (storeOf w)) l) idle
+    recorded-seen = seen s ∙ ap (λ (l : List Pair). tableOf (recorded q (storeOf w)) l) none
+
+    pub still-idle : ShownAs idle v
+    still-idle = while-idle (shown s) (omega (arith, ap (λ (t : Table). length (t .pending)) recorded-seen))
 
     pub pairs-fit : length (pairsOf q) ≤ storeOf w .capacities .pending → length (pendingIn v) + length (pairsOf q) ≤ storeOf v .capacities .pending
     unfolding recorded withEquals

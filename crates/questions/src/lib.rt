@@ -11,12 +11,13 @@ ghost use Prim.Native.Nat.{_+_, _≤_};
 ghost use mathlib.Core.List.{_++_};
 ghost use lib.ListN.{length};
 ghost use lib.Dec.{T};
+ghost use Rattle.model.specs.Format.{idle};
 ghost use Rattle.model.specs.Table.{tableOf};
 ghost use Rattle.model.specs.Image.{table};
 ghost use Rattle.model.specs.Formed.{wellFormed};
 ghost use Rattle.model.specs.Calls.{replyOf, isRecorded, recorded, pairsOf, askTurn, workTurn, abandonTurn};
 ghost use Rattle.model.specs.Told.{toldReply, toldAnswer};
-ghost use Rattle.image.specs.Shown.{Shows, Shown, storeOf, pendingIn, pendingTo};
+ghost use Rattle.image.specs.Shown.{Shows, Shown, ShowsAs, ShownAs, storeOf, pendingIn, pendingTo};
 ghost use Rattle.questions.specs.Asking.{Roomy, Fitness, worked};
 
 // Whether a question is recorded in equals.
@@ -93,16 +94,16 @@ fn record_equal(image: &mut [u32], q: Question)
 
 // Puts a question's pairs, the one worked first last.
 fn put_pairs(image: &mut [u32], q: Question)
-    requires { ⌜ Shown (now image) ⌝ }
+    requires { ⌜ ShownAs idle (now image) ⌝ }
     requires { ⌜ length (pendingIn (now image)) + length (pairsOf q) ≤ storeOf (now image) .capacities .pending ⌝ }
-    ensures { λ _. ⌜ Shows (now (image .exit)) (pendingTo (now (image .entry)) (pendingIn (now (image .entry)) ++ pairsOf q)) ⌝ }
+    ensures { λ _. ⌜ ShowsAs idle (now (image .exit)) (pendingTo (now (image .entry)) (pendingIn (now (image .entry)) ++ pairsOf q)) ⌝ }
 {
     if !q.equal {
-        image::push_pending(image, q.left, q.right);
+        image::put_asked(image, q.left, q.right);
         return;
     }
-    image::push_pending(image, q.right, q.left);
-    image::push_pending(image, q.left, q.right);
+    image::put_asked(image, q.right, q.left);
+    image::put_asked(image, q.left, q.right);
 }
 
 // Asks a question.
@@ -117,6 +118,7 @@ pub fn ask(image: &mut [u32], q: Question) -> Reply
     }
     record_equal(image, q);
     put_pairs(image, q);
+    image::open_question(image);
     Reply::Done
 }
 
@@ -185,6 +187,6 @@ pub fn abandon(image: &mut [u32]) -> Reply
     if !image::is_asked(image) {
         return Reply::Refused(Refusal::Idle);
     }
-    image::clear_pending(image);
+    image::end_question(image);
     Reply::Done
 }

@@ -10,7 +10,7 @@ use borrow.Author.Tests.{eq-eqb, ne-eqb}
 use Rattle.instalments.specs.Machine.{Outcome, goes, enough}
 use Rattle.model.specs.Format.{lower, upper}
 use Rattle.model.specs.Table.{Pair, _⊑_, Store, tableOf, graphOf, withGraph, withVisited}
-use Rattle.model.specs.Image.{word, pairWords, table}
+use Rattle.model.specs.Image.{word, pendingWords, table}
 use Rattle.model.specs.Formed.{wellFormed, isEntry, pairRight}
 use Rattle.model.specs.Rules.{joinBounds, pairRule, isVisited, visit, failing, outcomeOf, rule}
 use Rattle.model.specs.Room.{fitting, roomFor}
@@ -21,7 +21,7 @@ use Rattle.laws.proofs.Tests.{first, second, all-at, lt-of}
 use Rattle.laws.proofs.Formed.{sound-table}
 use Rattle.laws.proofs.StepSound.{fitting-enough}
 use Rattle.image.specs.Shown.{Shows, storeOf, graphIn, entriesOf, pendingIn, pendingTo}
-use Rattle.image.specs.Records.{pairAt}
+use Rattle.image.specs.Records.{pendingAt}
 use Rattle.constrain.specs.Next.{pairsIn, effectOf, Comes}
 use Rattle.constrain.specs.declared.Next.{Next}
 use Rattle.constrain.specs.declared.Next.the-variants as N
@@ -79,11 +79,11 @@ module _ (w : List ℕ) (p : Pair) (next : Next) (r : Step) (v : List ℕ) where
   applied-lower e k = applied-as N.Lower e k
 
 -- the words of the last pair
-pub last-sub : (ps : List Pair) (n x : ℕ) → n ≡ length ps → x ≡ word (pairWords (pairAt ps (n - 1))) 0 → x ≡ pairAt ps (length ps - 1) .sub
-last-sub ps n x e f = f ∙ ap (λ (k : ℕ). pairAt ps (k - 1) .sub) e
+pub last-sub : (ps : List Pair) (n x : ℕ) → n ≡ length ps → x ≡ word (pendingWords (pendingAt ps (n - 1))) 0 → x ≡ pendingAt ps (length ps - 1) .sub
+last-sub ps n x e f = f ∙ ap (λ (k : ℕ). pendingAt ps (k - 1) .sub) e
 
-pub last-sup : (ps : List Pair) (n x : ℕ) → n ≡ length ps → x ≡ word (pairWords (pairAt ps (n - 1))) 1 → x ≡ pairAt ps (length ps - 1) .sup
-last-sup ps n x e f = f ∙ ap (λ (k : ℕ). pairAt ps (k - 1) .sup) e
+pub last-sup : (ps : List Pair) (n x : ℕ) → n ≡ length ps → x ≡ word (pendingWords (pendingAt ps (n - 1))) 1 → x ≡ pendingAt ps (length ps - 1) .sup
+last-sup ps n x e f = f ∙ ap (λ (k : ℕ). pendingAt ps (k - 1) .sup) e
 
 module _ (w : List ℕ) (h : T (wellFormed w)) (some : 0 < length (pendingIn w)) (sub sup : ℕ) (a : sub ≡ lastPair w .sub) (b : sup ≡ lastPair w .sup) where
   last-is : lastPair w ≡ (sub ⊑ sup)

@@ -1,34 +1,35 @@
 -- Words after several changes, one after the other: the table that they show, and what the next change needs. Assumes nothing.
-use Prim.Native.Nat.{ℕ, _+_, _-_, _≤_, _<_}
+use Prim.Native.Nat.{ℕ, _-_, _≤_, _<_}
 use native.Mathlib.Omega.{arith}
 use mathlib.Core.Path.{_≡_, sym, ap, subst, _∙_}
-use mathlib.Core.List.{List, [], _∷_, _++_, append-nil}
+use mathlib.Core.List.{List, [], _∷_, _++_}
 use mathlib.Core.Bool.{Bool, true, false}
 use lib.ListN.{length, take}
 use lib.Dec.{eqb}
 use borrow.Author.Tests.{eq-eqb, ne-eqb}
 use Rattle.model.specs.Format.{unbroken, variable, lower, upper}
 use Rattle.model.specs.Table.{Bound, Pair, _⊑_, Table, tableOf, entryAt, is, isAt, isBroken, marked, withBounds, withEntries}
+use Rattle.model.specs.Image.{table}
 use Rattle.model.specs.Making.{boundsIn, repeats, addBound, changed, withMark, markEntry}
 use Rattle.model.specs.Rules.{visit, breakOf, fillBreak, boundPair, passMark}
 use Rattle.model.specs.declared.Failure.{Failure}
-use Rattle.model.specs.declared.Dynamic.{Dynamic}
-use Rattle.model.specs.declared.Dynamic.the-variants.{Absent, Present}
 use Rattle.image.specs.Shown.{Shows, Shown, storeOf, entriesOf, boundsAll, visitedIn, pendingIn, visitedTo, boundsTo, entriesTo, pendingTo, brokenTo}
 use Rattle.image.specs.Records.{saysMark}
 use Rattle.image.proofs.Laying.{seen, shown}
-use Rattle.constrain.specs.Fields.{dynamicPairs}
-use Rattle.step.specs.Taken.{beforeLast}
+use Rattle.image.proofs.Pending.{while-asked}
+use Rattle.step.specs.Taken.{beforeLast, Midway}
 use Rattle.step.proofs.Rooms.{one-more}
 
 -- a pair visited, then the last one taken off pending
 module _ (w v : List ℕ) (p : Pair) (s : Shows v (visitedTo w (visitedIn w ++ (p ∷ [])))) where
-  pub visited-pending : 0 < length (pendingIn w) → Shown v × (0 < length (pendingIn v))
-  visited-pending h = (shown s, subst (λ (t : Table). 0 < length (t .pending)) (sym (seen s)) h)
+  pub visited-pending : 0 < length (pendingIn w) → Midway v (table v) × (0 < length (pendingIn v))
+  visited-pending h =
+      let some : 0 < length (pendingIn v) = subst (λ (t : Table). 0 < length (t .pending)) (sym (seen s)) h in
+      (while-asked (shown s) some, some)
 
-  pub advanced : (u : List ℕ) → Shows u (pendingTo v (take (length (pendingIn v) - 1) (pendingIn v))) → Shows u (tableOf (visit p (storeOf w)) (beforeLast w))
+  pub advanced : (u : List ℕ) → Midway u (pendingTo v (take (length (pendingIn v) - 1) (pendingIn v))) → Midway u (tableOf (visit p (storeOf w)) (beforeLast w))
   unfolding visit
-  advanced u su = subst (λ (t : Table). Shows u (tableOf (t .store) (take (length (t .pending) - 1) (t .pending)))) (seen s) su
+  advanced u su = subst (λ (t : Table). Midway u (tableOf (t .store) (take (length (t .pending) - 1) (t .pending)))) (seen s) su
 
 -- the break words, where none stands there
 module _ (w : List ℕ) (f : Failure) (k : ℕ) (e : k ≡ storeOf w .broken .kind) where
@@ -100,28 +101,8 @@ module _ (w : List ℕ) (v side b : ℕ) where
 
 -- a pair put by the side of a bound
 module _ (w u : List ℕ) (side b x : ℕ) where
-  pub pair-lower : side ≡ 0 → Shows u (pendingTo w (pendingIn w ++ ((x ⊑ b) ∷ []))) → Shows u (pendingTo w (pendingIn w ++ (boundPair side b x ∷ [])))
+  pub pair-lower : side ≡ 0 → Midway u (pendingTo w (pendingIn w ++ ((x ⊑ b) ∷ []))) → Midway u (pendingTo w (pendingIn w ++ (boundPair side b x ∷ [])))
   pair-lower h s = let z : eqb side lower ≡ true = eq-eqb side lower h in rw z s
 
-  pub pair-upper : (side ≡ 0 → ⊥) → Shows u (pendingTo w (pendingIn w ++ ((b ⊑ x) ∷ []))) → Shows u (pendingTo w (pendingIn w ++ (boundPair side b x ∷ [])))
+  pub pair-upper : (side ≡ 0 → ⊥) → Midway u (pendingTo w (pendingIn w ++ ((b ⊑ x) ∷ []))) → Midway u (pendingTo w (pendingIn w ++ (boundPair side b x ∷ [])))
   pair-upper h s = let z : eqb side lower ≡ false = ne-eqb side lower h in rw z s
-
--- the pair of two dynamic types, if both are there
-module _ (w : List ℕ) (a b : Dynamic) where
-  pub dynamic-room : (m n : ℕ) → a ≡ Present m → b ≡ Present n → length (pendingIn w) + length (dynamicPairs a b) ≤ storeOf w .capacities .pending
-      → length (pendingIn w) < storeOf w .capacities .pending
-  dynamic-room m n ea eb h =
-      let z : length (dynamicPairs a b) ≡ 1 = rw (ea, eb) in
-      omega arith
-
-  pub dynamic-put : (m n : ℕ) → a ≡ Present m → b ≡ Present n → (u : List ℕ) → Shows u (pendingTo w (pendingIn w ++ ((m ⊑ n) ∷ []))) → Shows u (pendingTo w (pendingIn w ++ dynamicPairs a b))
-  dynamic-put m n ea eb u s = rw (ea, eb) s
-
-  none-put : dynamicPairs a b ≡ [] → Shown w → Shows w (pendingTo w (pendingIn w ++ dynamicPairs a b))
-  none-put e s = subst (λ (l : List Pair). Shows w (pendingTo w l)) (sym (ap (λ (l : List Pair). pendingIn w ++ l) e ∙ append-nil (pendingIn w))) s
-
-  pub no-second : (m : ℕ) → a ≡ Present m → b ≡ Absent → Shown w → Shows w (pendingTo w (pendingIn w ++ dynamicPairs a b))
-  no-second m ea eb = none-put (rw (ea, eb))
-
-  pub no-first : a ≡ Absent → Shown w → Shows w (pendingTo w (pendingIn w ++ dynamicPairs a b))
-  no-first ea = none-put (rw ea)

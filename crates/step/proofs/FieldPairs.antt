@@ -7,13 +7,14 @@ use lib.ListN.{length, length-append, length-reverse}
 use types.Run.{OneOf, miss}
 use denote.Enum.Declared.{tagOf}
 use Rattle.model.specs.Table.{Field, Pair, _⊑_, Table, tableOf}
+use Rattle.model.specs.Image.{table}
 use Rattle.model.specs.declared.Attrset.{Attrset}
 use Rattle.model.specs.declared.Dynamic.{Dynamic}
 use Rattle.model.specs.declared.Dynamic.the-variants.{Absent, Present}
-use Rattle.image.specs.Shown.{Shows, Shown, storeOf, fieldsIn, pendingIn, pendingTo}
+use Rattle.image.specs.Shown.{storeOf, fieldsIn, pendingIn, pendingTo}
 use Rattle.image.specs.Records.{fieldAt}
-use Rattle.image.proofs.Laying.{seen, shown as laid-again}
-use Rattle.image.proofs.Pending.{same-size}
+use Rattle.image.proofs.Laying.{seen-as, shown-as}
+use Rattle.image.proofs.Pending.{same-size-as}
 use Rattle.disjoint.specs.Fields.{Inside, fieldsHeld}
 use Rattle.disjoint.proofs.Fields.{rest, none-left, whole}
 use Rattle.constrain.specs.declared.Ask.{Ask}
@@ -22,20 +23,21 @@ use Rattle.constrain.proofs.Ask.{the-type}
 use Rattle.constrain.specs.Fields.{askOf, asked, pairsAsked, dynamicPairs, fieldPairs}
 use Rattle.constrain.proofs.Gathering.{pairs-next}
 use Rattle.step.specs.Put.{fieldPair}
+use Rattle.step.specs.Taken.{Midway}
 
 -- so many pairs more, or none
-pub pending-none : {w : List ℕ} → Shown w → {ps : List Pair} → ps ≡ [] → Shows w (pendingTo w (pendingIn w ++ ps))
+pub pending-none : {w : List ℕ} → Midway w (table w) → {ps : List Pair} → ps ≡ [] → Midway w (pendingTo w (pendingIn w ++ ps))
 pending-none {w} s {ps} q = rw (q, append-nil) s
 
-pub pending-one : (w : List ℕ) {v : List ℕ} {p : Pair} {ps : List Pair} → ps ≡ p ∷ [] → Shows v (pendingTo w (pendingIn w ++ (p ∷ []))) → Shows v (pendingTo w (pendingIn w ++ ps))
+pub pending-one : (w : List ℕ) {v : List ℕ} {p : Pair} {ps : List Pair} → ps ≡ p ∷ [] → Midway v (pendingTo w (pendingIn w ++ (p ∷ []))) → Midway v (pendingTo w (pendingIn w ++ ps))
 pending-one w q s = rw q s
 
 pub pending-room : (w : List ℕ) {p : Pair} {ps : List Pair} → ps ≡ p ∷ [] → length (pendingIn w) + length ps ≤ storeOf w .capacities .pending
     → length (pendingIn w) < storeOf w .capacities .pending
 pending-room w q h = let n = ap length q in omega arith
 
-pub pending-size : {w v : List ℕ} {ps : List Pair} → Shown w → Shows v (pendingTo w ps) → length v ≡ length w
-pending-size s t = same-size t s refl
+pub pending-size : {w v : List ℕ} {ps : List Pair} → Midway w (table w) → Midway v (pendingTo w ps) → length v ≡ length w
+pending-size s t = same-size-as t s refl
 
 -- what a field asks
 module _ (fs : List Field) (a : Attrset) (j : ℕ) where
@@ -110,12 +112,12 @@ module _ (fs : List Field) (a b : Attrset) where
 
 -- the pair of the dynamic types is there, with room for the others
 pub record Ready (w : List ℕ) (a b : Attrset) : Type 0 where
-  pub shown : Shown w
+  pub shown : Midway w (table w)
   pub sub : Inside (fieldsIn w) a
   pub sup : Inside (fieldsIn w) b
   pub room : length (pendingIn w) + length (pairsAsked a (fieldsHeld (fieldsIn w) a) (fieldsHeld (fieldsIn w) b)) ≤ storeOf w .capacities .pending
 
-module _ (w : List ℕ) (a b : Attrset) {v : List ℕ} (s : Shows v (pendingTo w (pendingIn w ++ dynamicPairs (a .dynamic) (b .dynamic)))) where
+module _ (w : List ℕ) (a b : Attrset) {v : List ℕ} (s : Midway v (pendingTo w (pendingIn w ++ dynamicPairs (a .dynamic) (b .dynamic)))) where
   pub ready : Inside (fieldsIn w) a → Inside (fieldsIn w) b
       → length (pendingIn w) + length (fieldPairs (fieldsIn w) a b) ≤ storeOf w .capacities .pending → Ready v a b
   unfolding fieldPairs
@@ -125,16 +127,16 @@ module _ (w : List ℕ) (a b : Attrset) {v : List ℕ} (s : Shows v (pendingTo w
       let m = length-append qs ds in
       let n = length-append (pendingIn w) ds in
       record {
-        shown = laid-again s;
-        sub = subst (λ (t : Table). Inside (t .store .fields) a) (sym (seen s)) h;
-        sup = subst (λ (t : Table). Inside (t .store .fields) b) (sym (seen s)) k;
-        room = subst (λ (t : Table). length (t .pending) + length (pairsAsked a (fieldsHeld (t .store .fields) a) (fieldsHeld (t .store .fields) b)) ≤ t .store .capacities .pending) (sym (seen s)) (omega arith);
+        shown = shown-as s;
+        sub = subst (λ (t : Table). Inside (t .store .fields) a) (sym (seen-as s)) h;
+        sup = subst (λ (t : Table). Inside (t .store .fields) b) (sym (seen-as s)) k;
+        room = subst (λ (t : Table). length (t .pending) + length (pairsAsked a (fieldsHeld (t .store .fields) a) (fieldsHeld (t .store .fields) b)) ≤ t .store .capacities .pending) (sym (seen-as s)) (omega arith);
       }
 
 -- where the loop stands: the pairs from field j on are there, last first
 pub record Putting (w₀ : List ℕ) (a b : Attrset) (j : ℕ) (w : List ℕ) : Type 0 where
   pub before : Ready w₀ a b
-  pub shows : Shows w (pendingTo w₀ (pendingIn w₀ ++ reverse (pairsFrom (fieldsIn w₀) a b j)))
+  pub shows : Midway w (pendingTo w₀ (pendingIn w₀ ++ reverse (pairsFrom (fieldsIn w₀) a b j)))
   pub low : b .first ≤ j
   pub high : j ≤ b .first + b .count
 
@@ -144,15 +146,15 @@ putting-start {w} {a} {b} r =
     record { before = r; shows = pending-none (r .shown) q; low = omega arith; high = omega arith }
 
 module _ {w₀ : List ℕ} {a b : Attrset} {j : ℕ} {w : List ℕ} (p : Putting w₀ a b j w) where
-  pub putting-shown : Shown w
-  putting-shown = laid-again (p .shows)
+  pub putting-shown : Midway w (table w)
+  putting-shown = shown-as (p .shows)
 
   pub putting-inside : Inside (fieldsIn w) a
-  putting-inside = subst (λ (t : Table). Inside (t .store .fields) a) (sym (seen (p .shows))) (p .before .sub)
+  putting-inside = subst (λ (t : Table). Inside (t .store .fields) a) (sym (seen-as (p .shows))) (p .before .sub)
 
   module _ (h : b .first < j) where
     pub putting-there : j - 1 < length (fieldsIn w)
-    putting-there = subst (λ (t : Table). j - 1 < length (t .store .fields)) (sym (seen (p .shows))) (omega (arith, p .high, p .before .sup))
+    putting-there = subst (λ (t : Table). j - 1 < length (t .store .fields)) (sym (seen-as (p .shows))) (omega (arith, p .high, p .before .sup))
 
     last-is : reverse (pairsFrom (fieldsIn w₀) a b (j - 1)) ≡ reverse (pairsFrom (fieldsIn w₀) a b j) ++ fieldPair (fieldsIn w₀) a (j - 1)
     last-is =
@@ -173,31 +175,31 @@ module _ {w₀ : List ℕ} {a b : Attrset} {j : ℕ} {w : List ℕ} (p : Putting
         let y = length-reverse (pairsFrom fs a b (j - 1)) in
         let m = length-append (pendingIn w₀) (reverse (pairsFrom fs a b j)) in
         let r = p .before .room in
-        subst (λ (t : Table). length (t .pending) + length (fieldPair (t .store .fields) a (j - 1)) ≤ t .store .capacities .pending) (sym (seen (p .shows))) (omega arith)
+        subst (λ (t : Table). length (t .pending) + length (fieldPair (t .store .fields) a (j - 1)) ≤ t .store .capacities .pending) (sym (seen-as (p .shows))) (omega arith)
 
-    pub putting-more : {v : List ℕ} → Shows v (pendingTo w (pendingIn w ++ fieldPair (fieldsIn w) a (j - 1))) → Putting w₀ a b (j - 1) v
+    pub putting-more : {v : List ℕ} → Midway v (pendingTo w (pendingIn w ++ fieldPair (fieldsIn w) a (j - 1))) → Putting w₀ a b (j - 1) v
     putting-more {v} s =
         let ps : List Pair = reverse (pairsFrom (fieldsIn w₀) a b j) in
         let f : List Pair = fieldPair (fieldsIn w₀) a (j - 1) in
-        let t : Shows v (pendingTo w₀ ((pendingIn w₀ ++ ps) ++ f)) = subst (λ (t : Table). Shows v (tableOf (t .store) (t .pending ++ fieldPair (t .store .fields) a (j - 1)))) (seen (p .shows)) s in
+        let t : Midway v (pendingTo w₀ ((pendingIn w₀ ++ ps) ++ f)) = subst (λ (t : Table). Midway v (tableOf (t .store) (t .pending ++ fieldPair (t .store .fields) a (j - 1)))) (seen-as (p .shows)) s in
         let q : (pendingIn w₀ ++ ps) ++ f ≡ pendingIn w₀ ++ reverse (pairsFrom (fieldsIn w₀) a b (j - 1)) =
         append-assoc (pendingIn w₀) ps f ∙ ap (λ (l : List Pair). pendingIn w₀ ++ l) (sym last-is) in
-        record { before = p .before; shows = subst (λ (l : List Pair). Shows v (pendingTo w₀ l)) q t; low = omega arith; high = omega (arith, p .high) }
+        record { before = p .before; shows = subst (λ (l : List Pair). Midway v (pendingTo w₀ l)) q t; low = omega arith; high = omega (arith, p .high) }
 
 -- all are put
-pub putting-end : (w : List ℕ) (a b : Attrset) {v u : List ℕ} {j : ℕ} → Shows v (pendingTo w (pendingIn w ++ dynamicPairs (a .dynamic) (b .dynamic)))
-    → Putting v a b j u → j ≤ b .first → Shows u (pendingTo w (pendingIn w ++ reverse (fieldPairs (fieldsIn w) a b)))
+pub putting-end : (w : List ℕ) (a b : Attrset) {v u : List ℕ} {j : ℕ} → Midway v (pendingTo w (pendingIn w ++ dynamicPairs (a .dynamic) (b .dynamic)))
+    → Putting v a b j u → j ≤ b .first → Midway u (pendingTo w (pendingIn w ++ reverse (fieldPairs (fieldsIn w) a b)))
 unfolding fieldPairs
 putting-end w a b {v} {u} {j} s p h =
     let e : j ≡ b .first = omega (arith, p .low) in
     let q : pairsFrom (fieldsIn v) a b j ≡ pairsAsked a (fieldsHeld (fieldsIn v) a) (fieldsHeld (fieldsIn v) b) = ap (pairsFrom (fieldsIn v) a b) e ∙ all-from (fieldsIn v) a b in
     let qs : List Pair = pairsAsked a (fieldsHeld (fieldsIn w) a) (fieldsHeld (fieldsIn w) b) in
     let ds : List Pair = dynamicPairs (a .dynamic) (b .dynamic) in
-    let x : Shows u (pendingTo v (pendingIn v ++ reverse (pairsAsked a (fieldsHeld (fieldsIn v) a) (fieldsHeld (fieldsIn v) b)))) =
-    subst (λ (l : List Pair). Shows u (pendingTo v (pendingIn v ++ reverse l))) q (p .shows) in
-    let y : Shows u (pendingTo w ((pendingIn w ++ ds) ++ reverse qs)) =
-    subst (λ (t : Table). Shows u (tableOf (t .store) (t .pending ++ reverse (pairsAsked a (fieldsHeld (t .store .fields) a) (fieldsHeld (t .store .fields) b))))) (seen s) x in
+    let x : Midway u (pendingTo v (pendingIn v ++ reverse (pairsAsked a (fieldsHeld (fieldsIn v) a) (fieldsHeld (fieldsIn v) b)))) =
+    subst (λ (l : List Pair). Midway u (pendingTo v (pendingIn v ++ reverse l))) q (p .shows) in
+    let y : Midway u (pendingTo w ((pendingIn w ++ ds) ++ reverse qs)) =
+    subst (λ (t : Table). Midway u (tableOf (t .store) (t .pending ++ reverse (pairsAsked a (fieldsHeld (t .store .fields) a) (fieldsHeld (t .store .fields) b))))) (seen-as s) x in
     let z : (pendingIn w ++ ds) ++ reverse qs ≡ pendingIn w ++ reverse (qs ++ ds) =
     append-assoc (pendingIn w) ds (reverse qs)
     ∙ ap (λ (l : List Pair). pendingIn w ++ l) (ap (λ (l : List Pair). l ++ reverse qs) (sym (dynamic-reverse (a .dynamic) (b .dynamic))) ∙ sym (reverse-append qs ds)) in
-    subst (λ (l : List Pair). Shows u (pendingTo w l)) z y
+    subst (λ (l : List Pair). Midway u (pendingTo w l)) z y

@@ -6,18 +6,19 @@ use mathlib.Core.List.{List, [], _∷_, _++_, reverse, append-nil, append-assoc}
 use lib.ListN.{length, length-append}
 use Rattle.instalments.specs.Machine.{goes}
 use Rattle.model.specs.Table.{Field, Pair, _⊑_, Store, Table, tableOf, withVisited}
+use Rattle.model.specs.Image.{table}
 use Rattle.model.specs.Rules.{visit}
 use Rattle.model.specs.Room.{fitting, roomFor}
 use Rattle.model.specs.declared.Attrset.{Attrset}
 use Rattle.model.specs.declared.Refusal.{Refusal}
-use Rattle.image.specs.Shown.{Shows, Shown, storeOf, fieldsIn, pendingIn, pendingTo}
-use Rattle.image.proofs.Laying.{seen, shown}
+use Rattle.image.specs.Shown.{Shows, storeOf, fieldsIn, pendingIn, pendingTo}
+use Rattle.image.proofs.Laying.{seen-as, shown-as}
 use Rattle.disjoint.specs.Fields.{Inside}
 use Rattle.constrain.specs.Fields.{fieldPairs}
 use Rattle.constrain.specs.Next.{pairsIn, PairsRight}
 use Rattle.constrain.specs.declared.Pairs.{Pairs}
 use Rattle.constrain.specs.declared.Pairs.the-variants.{Nothing, One, Two, Fields}
-use Rattle.step.specs.Taken.{beforeLast, roomIn, RoomFor}
+use Rattle.step.specs.Taken.{beforeLast, Midway, roomIn, RoomFor}
 use Rattle.step.specs.Put.{countIn}
 use Rattle.step.specs.declared.Step.the-variants.{Went, Refused}
 use Rattle.step.specs.declared.Room.{Room as RoomFound}
@@ -39,10 +40,10 @@ module _ (w : List ℕ) (ps : Pairs) where
 
   -- they are put
   abbrev pub Put : List ℕ → Type 0
-  Put v = Shows v (pendingTo w (pendingIn w ++ reverse (pairsIn (fieldsIn w) ps)))
+  Put v = Midway v (pendingTo w (pendingIn w ++ reverse (pairsIn (fieldsIn w) ps)))
 
-  pub put-none : ps ≡ Nothing → Shown w → Put w
-  put-none e s = subst (λ (l : List Pair). Shows w (pendingTo w l)) (sym (ap (λ (x : Pairs). pendingIn w ++ reverse (pairsIn (fieldsIn w) x)) e ∙ append-nil (pendingIn w))) s
+  pub put-none : ps ≡ Nothing → Midway w (table w) → Put w
+  put-none e s = subst (λ (l : List Pair). Midway w (pendingTo w l)) (sym (ap (λ (x : Pairs). pendingIn w ++ reverse (pairsIn (fieldsIn w) x)) e ∙ append-nil (pendingIn w))) s
 
   module _ (a b : ℕ) (e : ps ≡ One a b) where
     pub one-fits : Fitting → length (pendingIn w) < storeOf w .capacities .pending
@@ -50,7 +51,7 @@ module _ (w : List ℕ) (ps : Pairs) where
         let n : length (pairsIn (fieldsIn w) ps) ≡ 1 = rw e in
         omega arith
 
-    pub put-one : (v : List ℕ) → Shows v (pendingTo w (pendingIn w ++ ((a ⊑ b) ∷ []))) → Put v
+    pub put-one : (v : List ℕ) → Midway v (pendingTo w (pendingIn w ++ ((a ⊑ b) ∷ []))) → Put v
     put-one v s = rw e s
 
   module _ (a b c d : ℕ) (e : ps ≡ Two a b c d) where
@@ -59,30 +60,30 @@ module _ (w : List ℕ) (ps : Pairs) where
         let n : length (pairsIn (fieldsIn w) ps) ≡ 2 = rw e in
         omega arith
 
-    module _ (v : List ℕ) (s : Shows v (pendingTo w (pendingIn w ++ ((c ⊑ d) ∷ [])))) where
-      pub second-fits : Fitting → Shown v × (length (pendingIn v) < storeOf v .capacities .pending)
+    module _ (v : List ℕ) (s : Midway v (pendingTo w (pendingIn w ++ ((c ⊑ d) ∷ [])))) where
+      pub second-fits : Fitting → Midway v (table v) × (length (pendingIn v) < storeOf v .capacities .pending)
       second-fits h =
           let n : length (pairsIn (fieldsIn w) ps) ≡ 2 = rw e in
           let m : length (pendingIn w ++ ((c ⊑ d) ∷ [])) ≡ length (pendingIn w) + 1 = length-append (pendingIn w) ((c ⊑ d) ∷ []) in
           let goal : length (pendingIn w ++ ((c ⊑ d) ∷ [])) < storeOf w .capacities .pending = omega arith in
-          (shown s, subst (λ (t : Table). length (t .pending) < t .store .capacities .pending) (sym (seen s)) goal)
+          (shown-as s, subst (λ (t : Table). length (t .pending) < t .store .capacities .pending) (sym (seen-as s)) goal)
 
-      pub put-two : (u : List ℕ) → Shows u (pendingTo v (pendingIn v ++ ((a ⊑ b) ∷ []))) → Put u
+      pub put-two : (u : List ℕ) → Midway u (pendingTo v (pendingIn v ++ ((a ⊑ b) ∷ []))) → Put u
       put-two u su =
-          let k : Shows u (pendingTo w ((pendingIn w ++ ((c ⊑ d) ∷ [])) ++ ((a ⊑ b) ∷ []))) = subst (λ (t : Table). Shows u (tableOf (t .store) (t .pending ++ ((a ⊑ b) ∷ [])))) (seen s) su in
+          let k : Midway u (pendingTo w ((pendingIn w ++ ((c ⊑ d) ∷ [])) ++ ((a ⊑ b) ∷ []))) = subst (λ (t : Table). Midway u (tableOf (t .store) (t .pending ++ ((a ⊑ b) ∷ [])))) (seen-as s) su in
           let q : (pendingIn w ++ ((c ⊑ d) ∷ [])) ++ ((a ⊑ b) ∷ []) ≡ pendingIn w ++ ((c ⊑ d) ∷ (a ⊑ b) ∷ []) = append-assoc (pendingIn w) ((c ⊑ d) ∷ []) ((a ⊑ b) ∷ []) in
-          let l : Shows u (pendingTo w (pendingIn w ++ ((c ⊑ d) ∷ (a ⊑ b) ∷ []))) = subst (λ (x : List Pair). Shows u (pendingTo w x)) q k in
+          let l : Midway u (pendingTo w (pendingIn w ++ ((c ⊑ d) ∷ (a ⊑ b) ∷ []))) = subst (λ (x : List Pair). Midway u (pendingTo w x)) q k in
           rw e l
 
   module _ (a b : Attrset) (n : ℕ) (e : ps ≡ Fields a b n) where
-    pub fields-fit : Shown w → PairsRight (fieldsIn w) ps → Fitting
-        → Shown w × (Inside (fieldsIn w) a × (Inside (fieldsIn w) b × (length (pendingIn w) + length (fieldPairs (fieldsIn w) a b) ≤ storeOf w .capacities .pending)))
+    pub fields-fit : Midway w (table w) → PairsRight (fieldsIn w) ps → Fitting
+        → Midway w (table w) × (Inside (fieldsIn w) a × (Inside (fieldsIn w) b × (length (pendingIn w) + length (fieldPairs (fieldsIn w) a b) ≤ storeOf w .capacities .pending)))
     fields-fit s r h =
         let k : PairsRight (fieldsIn w) (Fields a b n) = subst (PairsRight (fieldsIn w)) e r in
         let l : length (pairsIn (fieldsIn w) ps) ≡ length (fieldPairs (fieldsIn w) a b) = rw e in
         (s, (k .0, (k .1, omega arith)))
 
-    pub put-fields : (v : List ℕ) → Shows v (pendingTo w (pendingIn w ++ reverse (fieldPairs (fieldsIn w) a b))) → Put v
+    pub put-fields : (v : List ℕ) → Midway v (pendingTo w (pendingIn w ++ reverse (fieldPairs (fieldsIn w) a b))) → Put v
     put-fields v s = rw e s
 
 -- the step
@@ -100,16 +101,16 @@ module _ (w : List ℕ) (p : Pair) (ps : Pairs) (right : PairsRight (fieldsIn w)
   pub follow-refused : (r : Refusal) → found ≡ Lacks r → Answers w (goes (visit p (storeOf w)) follows) (Refused r) w
   follow-refused r e = refused w (goes (visit p (storeOf w)) follows) r (follow-room ∙ ap roomIn e)
 
-  module _ (e : found ≡ Enough) (v : List ℕ) (s : Shows v (tableOf (visit p (storeOf w)) (beforeLast w))) where
-    pub follow-needs : Shown v × (PairsRight (fieldsIn v) ps × (length (pendingIn v) + length (pairsIn (fieldsIn v) ps) ≤ storeOf v .capacities .pending))
+  module _ (e : found ≡ Enough) (v : List ℕ) (s : Midway v (tableOf (visit p (storeOf w)) (beforeLast w))) where
+    pub follow-needs : Midway v (table v) × (PairsRight (fieldsIn v) ps × (length (pendingIn v) + length (pairsIn (fieldsIn v) ps) ≤ storeOf v .capacities .pending))
     unfolding visit withVisited
     follow-needs =
         let f = fits (visit p (storeOf w)) (length (beforeLast w) + k) (room-found w (storeOf w) k found e room p) in
         let goal : length (beforeLast w) + length follows ≤ storeOf w .capacities .pending = omega (arith, many, f .pending) in
-        (shown s, (subst (λ (t : Table). PairsRight (t .store .fields) ps) (sym (seen s)) right, subst (λ (t : Table). length (t .pending) + length (pairsIn (t .store .fields) ps) ≤ t .store .capacities .pending) (sym (seen s)) goal))
+        (shown-as s, (subst (λ (t : Table). PairsRight (t .store .fields) ps) (sym (seen-as s)) right, subst (λ (t : Table). length (t .pending) + length (pairsIn (t .store .fields) ps) ≤ t .store .capacities .pending) (sym (seen-as s)) goal))
 
     pub follow-went : (u : List ℕ) → Shows u (pendingTo v (pendingIn v ++ reverse (pairsIn (fieldsIn v) ps))) → Answers w (goes (visit p (storeOf w)) follows) Went u
     unfolding visit withVisited
     follow-went u su =
-        let k : Shows u (tableOf (visit p (storeOf w)) (beforeLast w ++ reverse follows)) = subst (λ (t : Table). Shows u (tableOf (t .store) (t .pending ++ reverse (pairsIn (t .store .fields) ps)))) (seen s) su in
+        let k : Shows u (tableOf (visit p (storeOf w)) (beforeLast w ++ reverse follows)) = subst (λ (t : Table). Shows u (tableOf (t .store) (t .pending ++ reverse (pairsIn (t .store .fields) ps)))) (seen-as s) su in
         went w (visit p (storeOf w)) u follows (follow-room ∙ ap roomIn e) k

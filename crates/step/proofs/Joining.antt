@@ -7,6 +7,7 @@ use lib.ListN.{length, take, length-map}
 use Rattle.instalments.specs.Machine.{Outcome, goes}
 use Rattle.model.specs.Format.{upper}
 use Rattle.model.specs.Table.{Bound, Pair, _⊑_, Store, Table, tableOf, changedTo, withGraph, withEntries, withBounds, withVisited}
+use Rattle.model.specs.Image.{table}
 use Rattle.model.specs.Making.{boundsIn, addBound}
 use Rattle.model.specs.Rules.{boundPair, otherSide, passMark, joinBounds, visit, outcomeOf}
 use Rattle.model.specs.Room.{fitting, roomFor}
@@ -14,8 +15,8 @@ use Rattle.model.specs.declared.Failure.{Failure}
 use Rattle.model.specs.declared.Refusal.{Refusal}
 use Rattle.laws.proofs.Effects.{add-bounds}
 use Rattle.image.specs.Shown.{Shows, Shown, storeOf, graphIn, entriesOf, boundsAll, visitedIn, pendingIn, entriesTo, boundsTo, pendingTo}
-use Rattle.image.proofs.Laying.{seen, shown}
-use Rattle.step.specs.Taken.{beforeLast, roomIn, RoomFor}
+use Rattle.image.proofs.Laying.{seen, seen-as, shown, shown-as}
+use Rattle.step.specs.Taken.{beforeLast, Midway, roomIn, RoomFor}
 use Rattle.step.specs.declared.Step.the-variants.{Went, Refused}
 use Rattle.step.specs.declared.Room.{Room as RoomFound}
 use Rattle.step.specs.declared.Room.the-variants.{Enough, Lacks}
@@ -45,9 +46,9 @@ unfolding withBounds
 bound-marked w u x v side b su sx = subst (λ (t : Table). Shows x (tableOf (withEntries (passMark v side b (t .store .entries)) (t .store)) (t .pending))) (seen su) sx
 
 -- the pair taken off, over words that show a table
-pub then-advance : {u x : List ℕ} {t : Table} → Shows u t → (p : Pair) → Shows x (tableOf (visit p (storeOf u)) (beforeLast u))
-    → Shows x (tableOf (visit p (t .store)) (take (length (t .pending) - 1) (t .pending)))
-then-advance {u} {x} {t} s p h = subst (λ (y : Table). Shows x (tableOf (visit p (y .store)) (take (length (y .pending) - 1) (y .pending)))) (seen s) h
+pub then-advance : {u x : List ℕ} {t : Table} → Shows u t → (p : Pair) → Midway x (tableOf (visit p (storeOf u)) (beforeLast u))
+    → Midway x (tableOf (visit p (t .store)) (take (length (t .pending) - 1) (t .pending)))
+then-advance {u} {x} {t} s p h = subst (λ (y : Table). Midway x (tableOf (visit p (y .store)) (take (length (y .pending) - 1) (y .pending)))) (seen s) h
 
 -- what the step leaves, but for its pair: the room, and the pairs to come
 pub record Joins (w : List ℕ) (after : Store) (v other more : ℕ) (found : RoomFound) : Type 0 where
@@ -76,13 +77,13 @@ module _ (w : List ℕ) (after : Store) (v other more : ℕ) (found : RoomFound)
       ),
     )
 
-    pub pairs-need : (p : Pair) (u : List ℕ) → Shows u (tableOf (visit p after) (beforeLast w))
-        → Shown u × (length (pendingIn u) + length (boundsIn (boundsAll u) v other) ≤ storeOf u .capacities .pending)
+    pub pairs-need : (p : Pair) (u : List ℕ) → Midway u (tableOf (visit p after) (beforeLast w))
+        → Midway u (table u) × (length (pendingIn u) + length (boundsIn (boundsAll u) v other) ≤ storeOf u .capacities .pending)
     unfolding visit withVisited
     pairs-need p u s =
         let k : length (beforeLast w) + more ≤ after .capacities .pending = fits (visit p after) (length (beforeLast w) + more) (room-found w after more found e (j .room) p) .pending in (
-          shown s,
-          subst (λ (t : Table). length (t .pending) + length (boundsIn (t .store .bounds) v other) ≤ t .store .capacities .pending) (sym (seen s)) (omega (arith, j .counted)),
+          shown-as s,
+          subst (λ (t : Table). length (t .pending) + length (boundsIn (t .store .bounds) v other) ≤ t .store .capacities .pending) (sym (seen-as s)) (omega (arith, j .counted)),
         )
 
   room-is : (p : Pair) (f : ℕ → Pair) → roomFor (length (beforeLast w)) (goes (visit p after) (map f (boundsIn (after .bounds) v other))) ≡ roomIn found
@@ -93,12 +94,12 @@ module _ (w : List ℕ) (after : Store) (v other more : ℕ) (found : RoomFound)
   pub join-refused : (p : Pair) (f : ℕ → Pair) (x : Refusal) → found ≡ Lacks x → Answers w (goes (visit p after) (map f (boundsIn (after .bounds) v other))) (Refused x) w
   join-refused p f x e = refused w (goes (visit p after) (map f (boundsIn (after .bounds) v other))) x (room-is p f ∙ ap roomIn e)
 
-  pub joined : (p : Pair) (f : ℕ → Pair) → found ≡ Enough → (u x : List ℕ) → Shows u (tableOf (visit p after) (beforeLast w))
+  pub joined : (p : Pair) (f : ℕ → Pair) → found ≡ Enough → (u x : List ℕ) → Midway u (tableOf (visit p after) (beforeLast w))
       → Shows x (pendingTo u (pendingIn u ++ reverse (map f (boundsIn (boundsAll u) v other)))) → Answers w (goes (visit p after) (map f (boundsIn (after .bounds) v other))) Went x
   unfolding visit withVisited
   joined p f e u x su sx =
       let a : Shows x (tableOf (visit p after) (beforeLast w ++ reverse (map f (boundsIn (after .bounds) v other)))) =
-      subst (λ (t : Table). Shows x (tableOf (t .store) (t .pending ++ reverse (map f (boundsIn (t .store .bounds) v other))))) (seen su) sx in
+      subst (λ (t : Table). Shows x (tableOf (t .store) (t .pending ++ reverse (map f (boundsIn (t .store .bounds) v other))))) (seen-as su) sx in
       went w (visit p after) x (map f (boundsIn (after .bounds) v other)) (room-is p f ∙ ap roomIn e) a
 
 -- the rule
@@ -114,7 +115,7 @@ module _ (w : List ℕ) (p : Pair) (v side b more : ℕ) (found : RoomFound) (j 
       subst (λ (o : Outcome Store Pair Failure). Answers w o (Refused x) w) (join-outcome w p v side b)
       (join-refused w _ v (otherSide side) more found j p (boundPair (otherSide side) b) x e)
 
-  pub bound-joined : found ≡ Enough → (u x : List ℕ) → Shows u (tableOf (visit p (withBound w v side b)) (beforeLast w))
+  pub bound-joined : found ≡ Enough → (u x : List ℕ) → Midway u (tableOf (visit p (withBound w v side b)) (beforeLast w))
       → Shows x (pendingTo u (pendingIn u ++ reverse (map (boundPair (otherSide side) b) (boundsIn (boundsAll u) v (otherSide side)))))
       → Answers w (outcomeOf (visit p (storeOf w)) p (joinBounds (graphIn w) v side b)) Went x
   bound-joined e u x su sx =

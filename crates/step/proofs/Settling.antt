@@ -25,10 +25,10 @@ use Rattle.laws.proofs.Entries.{lt-or-ge}
 use Rattle.laws.proofs.StepSound.{none-deep}
 use Rattle.laws.proofs.Formed.{sound-table}
 use Rattle.image.specs.Shown.{Shows, Shown, Within, storeOf, entriesOf, visitedIn, pendingIn, entriesTo, pendingTo}
-use Rattle.image.proofs.Laying.{formed-shown, seen, shown}
+use Rattle.image.proofs.Laying.{formed-shown, seen, seen-as, shown, shown-as}
 use Rattle.type_table.specs.Made.{entriesIn}
 use Rattle.type_table.proofs.Replies.{some-deep}
-use Rattle.step.specs.Taken.{Taken, takenBy, taken, beforeLast}
+use Rattle.step.specs.Taken.{Taken, takenBy, taken, beforeLast, Midway}
 use Rattle.step.specs.Made.{settled}
 use Rattle.step.specs.declared.Step.{Step}
 use Rattle.step.specs.declared.Step.the-variants.{Went, Refused}
@@ -102,9 +102,9 @@ module _ (w : List ℕ) (s : Shown w) (some : 0 < length (pendingIn w)) where
   room : length (beforeLast w) + 1 ≤ storeOf w .capacities .pending
   room = omega (arith, length-take-le (length (pendingIn w) - 1) (pendingIn w) (omega arith), s .within .pending)
 
-  pub settle-push : (p : Pair) (v : List ℕ) → Shows v (tableOf (visit p (storeOf w)) (beforeLast w)) → Shown v × (length (pendingIn v) < storeOf v .capacities .pending)
+  pub settle-push : (p : Pair) (v : List ℕ) → Midway v (tableOf (visit p (storeOf w)) (beforeLast w)) → Midway v (table v) × (length (pendingIn v) < storeOf v .capacities .pending)
   unfolding visit withVisited
-  settle-push p v sv = (shown sv, omega (arith, ap (λ (t : Table). length (t .pending)) (seen sv), ap (λ (t : Table). t .store .capacities .pending) (seen sv), room))
+  settle-push p v sv = (shown-as sv, omega (arith, ap (λ (t : Table). length (t .pending)) (seen-as sv), ap (λ (t : Table). t .store .capacities .pending) (seen-as sv), room))
 
 -- the way that settle goes, with words w
 module _ (w : List ℕ) (old : ℕ) (p q : Pair) (s : Shown w) (some : 0 < length (pendingIn w)) where
@@ -124,9 +124,9 @@ module _ (w : List ℕ) (old : ℕ) (p q : Pair) (s : Shown w) (some : 0 < lengt
         comes _ _ u (same ∙ settled-deep (table w) (beforeLast w) old p q (s .within) (room w s some) (omega arith) (sym e ∙ d) ∙ ap (λ (x : List ℕ). record { says = Refused TooDeep; words = x }) (sym (su .is)))
 
     pub settle-went : (deep : Bool) → deep ≡ tooDeep (entriesOf w) → deep ≡ false
-        → (v : List ℕ) → Shows v (tableOf (visit p (storeOf w)) (beforeLast w)) → (u : List ℕ) → Shows u (pendingTo v (pendingIn v ++ (q ∷ []))) → Comes (settled w old p q) Went u
+        → (v : List ℕ) → Midway v (tableOf (visit p (storeOf w)) (beforeLast w)) → (u : List ℕ) → Shows u (pendingTo v (pendingIn v ++ (q ∷ []))) → Comes (settled w old p q) Went u
     settle-went deep e d v sv u su =
-        let a : Shows u (tableOf (visit p (storeOf w)) (beforeLast w ++ (q ∷ []))) = subst (λ (t : Table). Shows u (tableOf (t .store) (t .pending ++ (q ∷ [])))) (seen sv) su in
+        let a : Shows u (tableOf (visit p (storeOf w)) (beforeLast w ++ (q ∷ []))) = subst (λ (t : Table). Shows u (tableOf (t .store) (t .pending ++ (q ∷ [])))) (seen-as sv) su in
         comes _ _ u (same ∙ settled-well (table w) (beforeLast w) old p q (s .within) (room w s some) (omega arith) (sym e ∙ d) ∙ ap (λ (x : List ℕ). record { says = Went; words = x }) (sym (a .is)))
 
 -- entries us were made in a well formed image w

@@ -5,15 +5,16 @@ use mathlib.Core.List.{List, [], _++_, reverse}
 use mathlib.Core.Bool.{Bool}
 use lib.ListN.{length, take}
 use Rattle.instalments.specs.Machine.{Outcome, fails, goes, Room, enough, lacks}
-use Rattle.model.specs.Table.{Pair, Store, tableOf, graphOf, withBounds}
+use Rattle.model.specs.Format.{asked}
+use Rattle.model.specs.Table.{Pair, Store, Table, tableOf, graphOf, withBounds}
 use Rattle.model.specs.Image.{words}
 use Rattle.model.specs.Making.{boundsIn, repeats, addBound}
 use Rattle.model.specs.Rules.{visit, outcomeOf}
 use Rattle.model.specs.Room.{fitting, roomFor}
 use Rattle.model.specs.declared.Failure.{Failure}
 use Rattle.model.specs.declared.Refusal.{Refusal}
-use Rattle.image.specs.Shown.{storeOf, boundsAll, pendingIn}
-use Rattle.image.specs.Records.{pairAt}
+use Rattle.image.specs.Shown.{ShowsAs, storeOf, boundsAll, pendingIn}
+use Rattle.image.specs.Records.{pendingAt}
 use Rattle.constrain.specs.Next.{effectOf}
 use Rattle.constrain.specs.declared.Next.{Next}
 use Rattle.step.specs.declared.Step.{Step}
@@ -23,10 +24,14 @@ use Rattle.step.specs.declared.Room.the-variants.{Enough, Lacks}
 
 -- "A step takes one pair off the end of pending": that pair, and what stands before it
 abbrev pub lastPair : List ℕ → Pair
-lastPair w = pairAt (pendingIn w) (length (pendingIn w) - 1)
+lastPair w = pendingAt (pendingIn w) (length (pendingIn w) - 1)
 
 abbrev pub beforeLast : List ℕ → List Pair
 beforeLast w = take (length (pendingIn w) - 1) (pendingIn w)
+
+-- in the midst of a step: a table's words, but the question is still asked, whatever is pending
+abbrev pub Midway : List ℕ → Table → Type 0
+Midway w t = ShowsAs asked w t
 
 abbrev pub roomIn : RoomFound → Room Refusal
 roomIn Enough = enough

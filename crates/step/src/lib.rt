@@ -28,7 +28,7 @@ ghost use Rattle.type_table.specs.Made.{Negatable};
 ghost use Rattle.constrain.specs.Fields.{fieldPairs, dynamicPairs};
 ghost use Rattle.constrain.specs.Next.{pairsIn, PairsRight, Applicable};
 ghost use Rattle.constrain.specs.declared.Next.the-variants.{Isolate, Functor};
-ghost use Rattle.step.specs.Taken.{beforeLast, lastPair, taken, outcomeFor, RoomFor, RoomForBound};
+ghost use Rattle.step.specs.Taken.{beforeLast, lastPair, Midway, taken, outcomeFor, RoomFor, RoomForBound};
 ghost use Rattle.step.specs.Made.{TargetIn, settled};
 ghost use Rattle.step.specs.Put.{fieldPair, countIn};
 
@@ -50,10 +50,20 @@ fn advance(image: &mut [u32], sub: u32, sup: u32)
     requires { ⌜ Shown (now image) ⌝ }
     requires { ⌜ length (visitedIn (now image)) < storeOf (now image) .capacities .visited ⌝ }
     requires { ⌜ 0 < length (pendingIn (now image)) ⌝ }
-    ensures { λ _. ⌜ Shows (now (image .exit)) (tableOf (visit (sub ⊑ sup) (storeOf (now (image .entry)))) (beforeLast (now (image .entry)))) ⌝ }
+    ensures { λ _. ⌜ Midway (now (image .exit)) (tableOf (visit (sub ⊑ sup) (storeOf (now (image .entry)))) (beforeLast (now (image .entry)))) ⌝ }
 {
     image::push_visited(image, sub, sup);
     image::pop_pending(image);
+}
+
+// Takes the last pair off pending, with nothing to record and nothing to follow.
+fn skip(image: &mut [u32])
+    requires { ⌜ Shown (now image) ⌝ }
+    requires { ⌜ 0 < length (pendingIn (now image)) ⌝ }
+    ensures { λ _. ⌜ Shows (now (image .exit)) (pendingTo (now (image .entry)) (beforeLast (now (image .entry)))) ⌝ }
+{
+    image::pop_pending(image);
+    image::end_if_done(image);
 }
 
 // Whether there is room for a visited pair and so many consequences, the pair taken off first.
@@ -100,46 +110,46 @@ fn fail(image: &mut [u32], sub: u32, sup: u32, failure: Failure) -> Step
         return Step::Refused(r);
     }
     image::push_visited(image, sub, sup);
-    image::clear_pending(image);
+    image::end_question(image);
     fill_break(image, failure);
     Step::Failed(failure)
 }
 
 // Puts what field record j asks of a on pending, if it asks for a pair.
 fn put_field_pair(image: &mut [u32], a: Attrset, j: u32)
-    requires { ⌜ Shown (now image) ⌝ }
+    requires { ⌜ Midway (now image) (table (now image)) ⌝ }
     requires { ⌜ Inside (fieldsIn (now image)) a ⌝ }
     requires { ⌜ j < length (fieldsIn (now image)) ⌝ }
     requires { ⌜ length (pendingIn (now image)) + length (fieldPair (fieldsIn (now image)) a j) ≤ storeOf (now image) .capacities .pending ⌝ }
-    ensures { λ _. ⌜ Shows (now (image .exit)) (pendingTo (now (image .entry)) (pendingIn (now (image .entry)) ++ fieldPair (fieldsIn (now (image .entry))) a j)) ⌝ }
+    ensures { λ _. ⌜ Midway (now (image .exit)) (pendingTo (now (image .entry)) (pendingIn (now (image .entry)) ++ fieldPair (fieldsIn (now (image .entry))) a j)) ⌝ }
 {
     let ask = constrain::asks(image, a, j);
     if let Ask::Under(x) = ask {
         let entry = image::field_word(image, j, image::ENTRY_WORD);
-        image::push_pending(image, x, entry);
+        image::put_consequence(image, x, entry);
     }
 }
 
 // Puts the pair of the dynamic types on pending, if both have one.
 fn put_dynamic_pair(image: &mut [u32], a: Dynamic, b: Dynamic)
-    requires { ⌜ Shown (now image) ⌝ }
+    requires { ⌜ Midway (now image) (table (now image)) ⌝ }
     requires { ⌜ length (pendingIn (now image)) + length (dynamicPairs a b) ≤ storeOf (now image) .capacities .pending ⌝ }
-    ensures { λ _. ⌜ Shows (now (image .exit)) (pendingTo (now (image .entry)) (pendingIn (now (image .entry)) ++ dynamicPairs a b)) ⌝ }
+    ensures { λ _. ⌜ Midway (now (image .exit)) (pendingTo (now (image .entry)) (pendingIn (now (image .entry)) ++ dynamicPairs a b)) ⌝ }
 {
     if let Dynamic::Present(m) = a {
         if let Dynamic::Present(n) = b {
-            image::push_pending(image, m, n);
+            image::put_consequence(image, m, n);
         }
     }
 }
 
 // Puts the pairs of sup's fields and of the dynamic types on pending, last first.
 fn put_field_pairs(image: &mut [u32], a: Attrset, b: Attrset)
-    requires { ⌜ Shown (now image) ⌝ }
+    requires { ⌜ Midway (now image) (table (now image)) ⌝ }
     requires { ⌜ Inside (fieldsIn (now image)) a ⌝ }
     requires { ⌜ Inside (fieldsIn (now image)) b ⌝ }
     requires { ⌜ length (pendingIn (now image)) + length (fieldPairs (fieldsIn (now image)) a b) ≤ storeOf (now image) .capacities .pending ⌝ }
-    ensures { λ _. ⌜ Shows (now (image .exit)) (pendingTo (now (image .entry)) (pendingIn (now (image .entry)) ++ reverse (fieldPairs (fieldsIn (now (image .entry))) a b))) ⌝ }
+    ensures { λ _. ⌜ Midway (now (image .exit)) (pendingTo (now (image .entry)) (pendingIn (now (image .entry)) ++ reverse (fieldPairs (fieldsIn (now (image .entry))) a b))) ⌝ }
 {
     let sub_dynamic = a.dynamic;
     let sup_dynamic = b.dynamic;
@@ -165,17 +175,17 @@ fn count_of(pairs: Pairs) -> u32
 
 // Puts the consequences on pending, last first.
 fn put_pairs(image: &mut [u32], pairs: Pairs)
-    requires { ⌜ Shown (now image) ⌝ }
+    requires { ⌜ Midway (now image) (table (now image)) ⌝ }
     requires { ⌜ PairsRight (fieldsIn (now image)) pairs ⌝ }
     requires { ⌜ length (pendingIn (now image)) + length (pairsIn (fieldsIn (now image)) pairs) ≤ storeOf (now image) .capacities .pending ⌝ }
-    ensures { λ _. ⌜ Shows (now (image .exit)) (pendingTo (now (image .entry)) (pendingIn (now (image .entry)) ++ reverse (pairsIn (fieldsIn (now (image .entry))) pairs))) ⌝ }
+    ensures { λ _. ⌜ Midway (now (image .exit)) (pendingTo (now (image .entry)) (pendingIn (now (image .entry)) ++ reverse (pairsIn (fieldsIn (now (image .entry))) pairs))) ⌝ }
 {
     match pairs {
         Pairs::Nothing => {}
-        Pairs::One(a, b) => image::push_pending(image, a, b),
+        Pairs::One(a, b) => image::put_consequence(image, a, b),
         Pairs::Two(a, b, c, d) => {
-            image::push_pending(image, c, d);
-            image::push_pending(image, a, b)
+            image::put_consequence(image, c, d);
+            image::put_consequence(image, a, b)
         }
         Pairs::Fields(a, b, _) => put_field_pairs(image, a, b),
     }
@@ -195,6 +205,7 @@ fn follow(image: &mut [u32], sub: u32, sup: u32, pairs: Pairs) -> Step
     }
     advance(image, sub, sup);
     put_pairs(image, pairs);
+    image::end_if_done(image);
     Step::Went
 }
 
@@ -258,7 +269,8 @@ fn settle(image: &mut [u32], old: u32, sub: u32, sup: u32, c: u32, target: u32) 
         return Step::Refused(Refusal::TooDeep);
     }
     advance(image, sub, sup);
-    image::push_pending(image, c, target);
+    image::put_consequence(image, c, target);
+    image::end_if_done(image);
     Step::Went
 }
 
@@ -342,22 +354,22 @@ fn pass_mark(image: &mut [u32], v: u32, side: u32, b: u32)
 
 // Puts the pair of a bound x, of that side, and b.
 fn put_bound_pair(image: &mut [u32], side: u32, x: u32, b: u32)
-    requires { ⌜ Shown (now image) ⌝ }
+    requires { ⌜ Midway (now image) (table (now image)) ⌝ }
     requires { ⌜ length (pendingIn (now image)) < storeOf (now image) .capacities .pending ⌝ }
-    ensures { λ _. ⌜ Shows (now (image .exit)) (pendingTo (now (image .entry)) (pendingIn (now (image .entry)) ++ (boundPair side b x ∷ []))) ⌝ }
+    ensures { λ _. ⌜ Midway (now (image .exit)) (pendingTo (now (image .entry)) (pendingIn (now (image .entry)) ++ (boundPair side b x ∷ []))) ⌝ }
 {
     if side == image::LOWER {
-        image::push_pending(image, x, b);
+        image::put_consequence(image, x, b);
     } else {
-        image::push_pending(image, b, x);
+        image::put_consequence(image, b, x);
     }
 }
 
 // Puts the pairs of v's bounds on a side and b on pending, last first.
 fn put_bound_pairs(image: &mut [u32], v: u32, side: u32, b: u32)
-    requires { ⌜ Shown (now image) ⌝ }
+    requires { ⌜ Midway (now image) (table (now image)) ⌝ }
     requires { ⌜ length (pendingIn (now image)) + length (boundsIn (boundsAll (now image)) v side) ≤ storeOf (now image) .capacities .pending ⌝ }
-    ensures { λ _. ⌜ Shows (now (image .exit)) (pendingTo (now (image .entry)) (pendingIn (now (image .entry)) ++ reverse (map (boundPair side b) (boundsIn (boundsAll (now (image .entry))) v side)))) ⌝ }
+    ensures { λ _. ⌜ Midway (now (image .exit)) (pendingTo (now (image .entry)) (pendingIn (now (image .entry)) ++ reverse (map (boundPair side b) (boundsIn (boundsAll (now (image .entry))) v side)))) ⌝ }
 {
     let mut i = image::bounds_count(image);
     while 0 < i {
@@ -391,6 +403,7 @@ fn join_bounds(image: &mut [u32], sub: u32, sup: u32, v: u32, side: u32, b: u32)
     pass_mark(image, v, side, b);
     advance(image, sub, sup);
     put_bound_pairs(image, v, other, b);
+    image::end_if_done(image);
     Step::Went
 }
 
@@ -423,14 +436,14 @@ pub fn take_step(image: &mut [u32]) -> Step
     ensures { λ _. ⌜ now (image .exit) ≡ taken (now (image .entry)) (rule (storeOf (now (image .entry))) (lastPair (now (image .entry)))) .words ⌝ }
 {
     let last = image::pending_count(image) - 1;
-    let sub = image::pending_word(image, last, image::SUB_WORD);
-    let sup = image::pending_word(image, last, image::SUP_WORD);
+    let sub = image::pending_word(image, last, image::PENDING_SUB_WORD);
+    let sup = image::pending_word(image, last, image::PENDING_SUP_WORD);
     if sub == sup {
-        image::pop_pending(image);
+        skip(image);
         return Step::Went;
     }
     if image::visited_has(image, sub, sup) {
-        image::pop_pending(image);
+        skip(image);
         return Step::Went;
     }
     let next = constrain::constrain(image, sub, sup);

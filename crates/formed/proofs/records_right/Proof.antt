@@ -1,6 +1,6 @@
 -- `formed::records_right` meets its contract. Assumes nothing.
 use borrow.Author.Needs.{needs}
-use Rattle.model.specs.Image.{table}
+use Rattle.model.specs.Image.{visitedOf, pendingOf, equalOf, table}
 use Rattle.model.specs.Formed.{recordsRight}
 use Rattle.formed.proofs.Tested.{joined-is}
 use Rattle.formed.proofs.records_right.Statement.{statement}
@@ -28,7 +28,7 @@ pairs-right-requires-3 : tie.Need-pairs-right-requires-3
 pairs-right-requires-3 c κs = search needs
 
 returns : tie.Need-returns
-unfolding recordsRight table
+unfolding recordsRight table visitedOf pendingOf equalOf
 returns c =
     rw (
       c .before .before .before .before .before .before .break-right .ensures,

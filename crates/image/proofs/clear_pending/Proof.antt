@@ -1,7 +1,7 @@
 -- `clear_pending`: takes every pending pair off.
 use Rattle.image.proofs.Pending.{Emptying, emptying-start, emptying-more, emptying-less, emptying-end, emptying-size}
-use Rattle.image.proofs.Places.{facts}
-use Rattle.image.proofs.Laying.{shown}
+use Rattle.image.proofs.Places.{facts-as}
+use Rattle.image.proofs.Laying.{shown-as}
 use lib.ListN.{getD}
 use native.Mathlib.Omega.{arith}
 use Rattle.image.proofs.clear_pending.Statement.{statement}
@@ -23,14 +23,14 @@ loop-holds c = emptying-start (c .before .pre)
 -- src/lib.rt:604:15
 slice-read-if1 : tie.Need-slice-read-if1 Inv-loop μ-loop
 slice-read-if1 c =
-    let f = facts (c .before .loop .inv .shows) in
+    let f = facts-as (c .before .loop .inv .shows) in
     omega arith
 
 -- src/lib.rt:605:9
 pop-pending-requires : tie.Need-pop-pending-requires Inv-loop μ-loop
 pop-pending-requires c κs =
-    let s = shown (c .before .before .before .loop .inv .shows) in
-    let f = facts s in
+    let s = shown-as (c .before .before .before .loop .inv .shows) in
+    let f = facts-as s in
     (s, omega (arith, c .before .if1 .taken))
 
 -- src/lib.rt:604:5

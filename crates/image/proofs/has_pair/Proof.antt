@@ -1,7 +1,7 @@
 -- `has_pair`: whether the pair (a, b) is among the first n of a region that is lent from its offset on.
 use Rattle.image.proofs.Searching.{miss, hit, is-same, is-other}
 use Rattle.model.specs.Rules.{samePair}
-use Rattle.model.specs.Image.{pairOf}
+use Rattle.model.specs.Image.{visitedOf}
 use Rattle.model.specs.Table.{_⊑_}
 use Rattle.model.specs.Lists.{any, readMany}
 use borrow.Author.Needs.{needs}
@@ -18,7 +18,7 @@ use Rattle.image.proofs.has_pair.Lts as lts
 use Rattle.image.proofs.join.Reads as join-reads
 
 abbrev Inv-loop : tie.InvT-loop
-Inv-loop region n a b key i₀ i = (i ≤ n) × (any (samePair (a ⊑ b)) (readMany pairOf (drop 2) i region) ≡ false)
+Inv-loop region n a b key i₀ i = (i ≤ n) × (any (samePair (a ⊑ b)) (readMany visitedOf (drop 2) i region) ≡ false)
 
 abbrev μ-loop : tie.MeasureT-loop
 μ-loop region n a b key i₀ i = n - i
@@ -72,7 +72,7 @@ returns c =
     let i = c .before .before .before .before .before .loop .i in
     let x = c .before .before .before .shared-slice-known2 .given (2 * i) in
     let e = is-same l i (a .a) (a .b) (omega (arith, x)) (omega arith) _ _ (c .before .join2 .ensures) (c .before .before .before .before .before .before .join .ensures) (c .if1 .taken) in
-    sym (hit pairOf 2 (samePair (a .a ⊑ a .b)) l i (a .n) (search needs) e)
+    sym (hit visitedOf 2 (samePair (a .a ⊑ a .b)) l i (a .n) (search needs) e)
 
 -- src/lib.rt:688:9
 add-i : tie.Need-add-i Inv-loop μ-loop
@@ -90,7 +90,7 @@ loop-again c =
     let i = c .before .before .before .before .before .loop .i in
     let x = c .before .before .before .shared-slice-known2 .given (2 * i) in
     let e = is-other l i (a .a) (a .b) (omega (arith, x)) (omega arith) _ _ (c .before .join2 .ensures) (c .before .before .before .before .before .before .join .ensures) (c .if1 .left) in
-    (search needs, miss pairOf 2 (samePair (a .a ⊑ a .b)) l i (c .before .before .before .before .before .loop .inv .1) e)
+    (search needs, miss visitedOf 2 (samePair (a .a ⊑ a .b)) l i (c .before .before .before .before .before .loop .inv .1) e)
 
 -- src/lib.rt:678:1
 returns-2 : tie.Need-returns-2 Inv-loop μ-loop

@@ -1,7 +1,7 @@
 -- `push_equal`: records a pair as asked equal.
 use Rattle.model.specs.Table.{_⊑_}
 use Rattle.image.proofs.Places.{facts, become, shows-pushed, equals-part}
-use Rattle.laws.proofs.Regions.{pair-coded}
+use Rattle.laws.proofs.Regions.{equal-coded}
 use native.Mathlib.Omega.{arith}
 use borrow.Author.Needs.{needs}
 use Rattle.image.proofs.push_equal.Statement.{statement}
@@ -26,7 +26,7 @@ returns : tie.Need-returns
 returns c =
     let s = c .before .before .before .before .before in
     let a = s .args in
-    become (c .before .before .append-pair .ensures) (shows-pushed pair-coded (equals-part _ (s .pre .0)) (a .left ⊑ a .right) (s .pre .1))
+    become (c .before .before .append-pair .ensures) (shows-pushed equal-coded (equals-part _ (s .pre .0)) (a .left ⊑ a .right) (s .pre .1))
 
 pub push-equal-spec : {M : Type 1} → statement M
 push-equal-spec = tie.close (tie.spec append-pair-requires same-length returns)

@@ -1,7 +1,7 @@
 -- `push_visited`: records a pair as visited.
 use Rattle.model.specs.Table.{_⊑_}
 use Rattle.image.proofs.Places.{facts, become, shows-pushed, visited-part}
-use Rattle.laws.proofs.Regions.{pair-coded}
+use Rattle.laws.proofs.Regions.{visited-coded}
 use native.Mathlib.Omega.{arith}
 use borrow.Author.Needs.{needs}
 use Rattle.image.proofs.push_visited.Statement.{statement}
@@ -26,7 +26,7 @@ returns : tie.Need-returns
 returns c =
     let s = c .before .before .before .before .before in
     let a = s .args in
-    become (c .before .before .append-pair .ensures) (shows-pushed pair-coded (visited-part _ (s .pre .0)) (a .sub ⊑ a .sup) (s .pre .1))
+    become (c .before .before .append-pair .ensures) (shows-pushed visited-coded (visited-part _ (s .pre .0)) (a .sub ⊑ a .sup) (s .pre .1))
 
 pub push-visited-spec : {M : Type 1} → statement M
 push-visited-spec = tie.close (tie.spec append-pair-requires same-length returns)

@@ -2,9 +2,11 @@
 use mathlib.Core.Path.{subst}
 use denote.Ref.{now}
 use Rattle.model.specs.declared.Reply.{Reply}
-use Rattle.image.proofs.Laying.{formed-shown, shown}
+use Rattle.image.proofs.Laying.{formed-shown, shown-as}
+use Rattle.image.proofs.Pending.{stated}
+use Rattle.image.proofs.open_question.Reads as open-question-reads
 use Rattle.questions.specs.Asking.{Fitness}
-use Rattle.questions.proofs.Asking.{refused-so, left-so, pairs-fit, question-open}
+use Rattle.questions.proofs.Asking.{refused-so, left-so, some-put, still-idle, pairs-fit, question-open}
 use borrow.Author.Needs.{needs}
 use Rattle.questions.proofs.ask.Statement.{statement}
 use Rattle.questions.proofs.ask.Tie as tie
@@ -54,7 +56,13 @@ put-pairs-requires c κs =
     let w = now (s .args .image) in
     let f = subst (λ (x : Reply). Fitness w q x) (c .before .before .before .before .before .enum-told .given .1) (c .before .before .before .before .before .before .before .fitness .ensures) in
     let k = c .before .before .before .record-equal .ensures in
-    (shown k, pairs-fit q w _ (f .1) k (f .0 .pairs))
+    (still-idle q w _ (f .1) k, pairs-fit q w _ (f .1) k (f .0 .pairs))
+
+open-question-requires : tie.Need-open-question-requires
+open-question-requires c κs =
+    let s = c .before .before .before .before .before .before .before .before .before .before .before .before .before .before in
+    let p = c .before .before .before .put-pairs .ensures in
+    (shown-as p, some-put (s .args .q) _ p)
 
 -- src/lib.rt:109:1
 same-length-2 : tie.Need-same-length-2
@@ -63,11 +71,11 @@ same-length-2 c = search needs
 -- src/lib.rt:109:1
 returns-2 : tie.Need-returns-2
 returns-2 c =
-    let s = c .before .before .before .before .before .before .before .before .before .before .before .before .before in
+    let s = c .before .before .before .before .before .before .before .before .before .before .before .before .before .before .before .before .before in
     let q = s .args .q in
     let w = now (s .args .image) in
-    let f = subst (λ (x : Reply). Fitness w q x) (c .before .before .before .before .before .before .before .before .enum-told .given .1) (c .before .before .before .before .before .before .before .before .before .before .fitness .ensures) in
-    left-so w _ _ _ (f .2) (question-open q w _ (f .1) (c .before .before .before .before .before .before .record-equal .ensures) _ (c .before .before .put-pairs .ensures))
+    let f = subst (λ (x : Reply). Fitness w q x) (c .before .before .before .before .before .before .before .before .before .before .before .before .enum-told .given .1) (c .before .before .before .before .before .before .before .before .before .before .before .before .before .before .fitness .ensures) in
+    left-so w _ _ _ (f .2) (question-open q w _ (f .1) (c .before .before .before .before .before .before .before .before .before .before .record-equal .ensures) _ (stated (c .before .before .before .before .before .before .put-pairs .ensures) (c .before .before .open-question .ensures)))
 
 pub ask-spec : {M : Type 1} → statement M
 ask-spec =
@@ -80,5 +88,6 @@ ask-spec =
     enum-told
     record-equal-requires
     put-pairs-requires
+    open-question-requires
     same-length-2
     returns-2)

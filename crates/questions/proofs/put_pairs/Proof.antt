@@ -1,17 +1,17 @@
 -- One pair, or two: proofs/Asking.antt.
 use borrow.Author.Tests.{not-true, not-false}
-use Rattle.image.proofs.Laying.{shown}
+use Rattle.image.proofs.Laying.{shown-as}
 use Rattle.questions.proofs.Asking.{one-pair-fits, one-put, first-fits, second-fits, two-put}
 use borrow.Author.Needs.{needs}
 use Rattle.questions.proofs.put_pairs.Statement.{statement}
 use Rattle.questions.proofs.put_pairs.Tie as tie
 use Rattle.questions.proofs.put_pairs.Reads as reads
 use Rattle.questions.proofs.put_pairs.Lts as lts
-use Rattle.image.proofs.push_pending.Reads as push-pending-reads
+use Rattle.image.proofs.put_asked.Reads as put-asked-reads
 
 -- src/lib.rt:101:9
-push-pending-requires : tie.Need-push-pending-requires
-push-pending-requires c κs =
+put-asked-requires : tie.Need-put-asked-requires
+put-asked-requires c κs =
     let s = c .before .before .before .before in
     (s .pre .0, one-pair-fits (s .args .q) _ (s .pre .1) (not-true _ (c .before .if1 .taken)))
 
@@ -23,20 +23,20 @@ same-length c = search needs
 returns : tie.Need-returns
 returns c =
     let s = c .before .before .before .before .before .before .before in
-    one-put (s .args .q) _ _ (not-true _ (c .before .before .before .before .if1 .taken)) (c .before .before .push-pending .ensures)
+    one-put (s .args .q) _ _ (not-true _ (c .before .before .before .before .if1 .taken)) (c .before .before .put-asked .ensures)
 
 -- src/lib.rt:104:5
-push-pending-requires-2 : tie.Need-push-pending-requires-2
-push-pending-requires-2 c κs =
+put-asked-requires-2 : tie.Need-put-asked-requires-2
+put-asked-requires-2 c κs =
     let s = c .before .before .before .before in
     (s .pre .0, first-fits (s .args .q) _ (s .pre .1) (not-false _ (c .before .if1 .left)))
 
 -- src/lib.rt:105:5
-push-pending-requires-3 : tie.Need-push-pending-requires-3
-push-pending-requires-3 c κs =
+put-asked-requires-3 : tie.Need-put-asked-requires-3
+put-asked-requires-3 c κs =
     let s = c .before .before .before .before .before .before .before .before in
-    let k = c .before .before .before .push-pending2 .ensures in
-    (shown k, second-fits (s .args .q) _ (s .pre .1) _ k (not-false _ (c .before .before .before .before .before .if1 .left)))
+    let k = c .before .before .before .put-asked2 .ensures in
+    (shown-as k, second-fits (s .args .q) _ (s .pre .1) _ k (not-false _ (c .before .before .before .before .before .if1 .left)))
 
 -- src/lib.rt:95:1
 same-length-2 : tie.Need-same-length-2
@@ -46,16 +46,16 @@ same-length-2 c = search needs
 returns-2 : tie.Need-returns-2
 returns-2 c =
     let s = c .before .before .before .before .before .before .before .before .before .before .before in
-    two-put (s .args .q) _ (s .pre .1) _ (c .before .before .before .before .before .before .push-pending2 .ensures) _ (not-false _ (c .before .before .before .before .before .before .before .before .if1 .left)) (c .before .before .push-pending3 .ensures)
+    two-put (s .args .q) _ (s .pre .1) _ (c .before .before .before .before .before .before .put-asked2 .ensures) _ (not-false _ (c .before .before .before .before .before .before .before .before .if1 .left)) (c .before .before .put-asked3 .ensures)
 
 pub put-pairs-spec : {M : Type 1} → statement M
 put-pairs-spec =
     tie.close
     (tie.spec
-    push-pending-requires
+    put-asked-requires
     same-length
     returns
-    push-pending-requires-2
-    push-pending-requires-3
+    put-asked-requires-2
+    put-asked-requires-3
     same-length-2
     returns-2)

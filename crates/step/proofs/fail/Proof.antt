@@ -1,5 +1,6 @@
 -- Refused for want of room, or failed.
 use Rattle.image.proofs.Laying.{formed-shown, shown}
+use Rattle.step.proofs.Chains.{visited-pending}
 use Rattle.step.proofs.Rooms.{visited-room}
 use Rattle.step.proofs.Taking.{fail-refused, fail-told}
 use borrow.Author.Needs.{needs}
@@ -26,20 +27,20 @@ push-visited-requires : tie.Need-push-visited-requires
 push-visited-requires c κs =
     (formed-shown _ (c .before .before .before .before .before .before .pre .0), visited-room _ _ 0 _ (c .before .enum-told .given .1) (c .before .before .before .room-for .ensures))
 
-clear-pending-requires : tie.Need-clear-pending-requires
-clear-pending-requires c κs =
-    shown (c .before .before .before .push-visited .ensures)
+end-question-requires : tie.Need-end-question-requires
+end-question-requires c κs =
+    visited-pending _ _ _ (c .before .before .before .push-visited .ensures) (c .before .before .before .before .before .before .before .before .before .before .pre .1) .0
 
 fill-break-requires : tie.Need-fill-break-requires
 fill-break-requires c κs =
-    shown (c .before .before .before .clear-pending .ensures)
+    shown (c .before .before .before .end-question .ensures)
 
 same-length-2 : tie.Need-same-length-2
 same-length-2 c = search needs
 
 returns-2 : tie.Need-returns-2
 returns-2 c =
-    fail-told _ _ _ _ (c .before .before .before .before .before .before .before .before .before .before .before .before .enum-told .given .1) (c .before .before .before .before .before .before .before .before .before .before .before .before .before .before .room-for .ensures) _ _ _ (c .before .before .before .before .before .before .before .before .before .before .push-visited .ensures) (c .before .before .before .before .before .before .clear-pending .ensures) (c .before .before .fill-break .ensures)
+    fail-told _ _ _ _ (c .before .before .before .before .before .before .before .before .before .before .before .before .enum-told .given .1) (c .before .before .before .before .before .before .before .before .before .before .before .before .before .before .room-for .ensures) _ _ _ (c .before .before .before .before .before .before .before .before .before .before .push-visited .ensures) (c .before .before .before .before .before .before .end-question .ensures) (c .before .before .fill-break .ensures)
 
 pub fail-spec : {M : Type 1} → statement M
 fail-spec =
@@ -51,7 +52,7 @@ fail-spec =
     returns
     enum-told
     push-visited-requires
-    clear-pending-requires
+    end-question-requires
     fill-break-requires
     same-length-2
     returns-2)

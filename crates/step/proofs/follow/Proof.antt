@@ -1,5 +1,6 @@
 -- Refused for want of room, or gone on: proofs/Following.antt.
-use Rattle.image.proofs.Laying.{formed-shown}
+use Rattle.image.proofs.Laying.{formed-shown, shown-as}
+use Rattle.image.proofs.Pending.{stated}
 use Rattle.step.proofs.Rooms.{visited-room}
 use Rattle.step.proofs.Following.{follow-refused, follow-needs, follow-went}
 use borrow.Author.Needs.{needs}
@@ -7,6 +8,7 @@ use Rattle.step.proofs.follow.Statement.{statement}
 use Rattle.step.proofs.follow.Tie as tie
 use Rattle.step.proofs.follow.Reads as reads
 use Rattle.step.proofs.follow.Lts as lts
+use Rattle.image.proofs.end_if_done.Reads as end-if-done-reads
 use Rattle.step.proofs.advance.Reads as advance-reads
 use Rattle.step.proofs.count_of.Reads as count-of-reads
 use Rattle.step.proofs.put_pairs.Reads as put-pairs-reads
@@ -43,13 +45,16 @@ advance-requires c κs = (formed-shown _ (c .before .before .before .before .bef
 put-pairs-requires : tie.Need-put-pairs-requires
 put-pairs-requires c κs = follow-needs _ _ (c .before .before .before .before .before .before .before .before .before .before .before .args .pairs) (c .before .before .before .before .before .before .before .before .before .before .before .pre .1 .1) _ (c .before .before .before .before .before .before .before .before .count-of .ensures) _ (c .before .before .before .before .before .before .before .room-for .ensures) (c .before .before .before .before .before .enum-told .given .1) _ (c .before .before .before .advance .ensures)
 
+end-if-done-requires : tie.Need-end-if-done-requires
+end-if-done-requires c κs = shown-as (c .before .before .before .put-pairs .ensures)
+
 -- src/lib.rt:222:1
 same-length-2 : tie.Need-same-length-2
 same-length-2 c = search needs
 
 -- src/lib.rt:222:1
 returns-2 : tie.Need-returns-2
-returns-2 c = follow-went _ _ (c .before .before .before .before .before .before .before .before .before .before .before .before .before .before .args .pairs) (c .before .before .before .before .before .before .before .before .before .before .before .before .before .before .pre .1 .1) _ (c .before .before .before .before .before .before .before .before .before .before .before .count-of .ensures) _ (c .before .before .before .before .before .before .before .before .before .before .room-for .ensures) (c .before .before .before .before .before .before .before .before .enum-told .given .1) _ (c .before .before .before .before .before .before .advance .ensures) _ (c .before .before .put-pairs .ensures)
+returns-2 c = follow-went _ _ (c .before .before .before .before .before .before .before .before .before .before .before .before .before .before .before .before .before .before .args .pairs) (c .before .before .before .before .before .before .before .before .before .before .before .before .before .before .before .before .before .before .pre .1 .1) _ (c .before .before .before .before .before .before .before .before .before .before .before .before .before .before .before .count-of .ensures) _ (c .before .before .before .before .before .before .before .before .before .before .before .before .before .before .room-for .ensures) (c .before .before .before .before .before .before .before .before .before .before .before .before .enum-told .given .1) _ (c .before .before .before .before .before .before .before .before .before .before .advance .ensures) _ (stated (c .before .before .before .before .before .before .put-pairs .ensures) (c .before .before .end-if-done .ensures))
 
 pub follow-spec : {M : Type 1} → statement M
 follow-spec =
@@ -63,5 +68,6 @@ follow-spec =
     enum-told
     advance-requires
     put-pairs-requires
+    end-if-done-requires
     same-length-2
     returns-2)

@@ -2,7 +2,8 @@
 use denote.Ref.{now}
 use Rattle.model.specs.Table.{_⊑_}
 use Rattle.model.specs.Rules.{otherSide}
-use Rattle.image.proofs.Laying.{formed-shown, formed-laid, shown}
+use Rattle.image.proofs.Laying.{formed-shown, formed-laid, shown, shown-as}
+use Rattle.image.proofs.Pending.{stated}
 use Rattle.step.proofs.Joining.{bound-fits, still-entry, bound-marked, joins, then-advance, advance-needs, pairs-need, bound-refused, bound-joined}
 use borrow.Author.Needs.{needs}
 use Rattle.step.proofs.join_bounds.Statement.{statement}
@@ -80,19 +81,22 @@ put-bound-pairs-requires c κs =
     let p = a .sub ⊑ a .sup in
     pairs-need w _ (a .v) (otherSide (a .side)) _ _ j (c .before .before .before .before .before .before .before .before .before .before .before .before .before .enum-told .given .1) p _ (then-advance m p (c .before .before .before .advance .ensures))
 
+end-if-done-requires : tie.Need-end-if-done-requires
+end-if-done-requires c κs = shown-as (c .before .before .before .put-bound-pairs .ensures)
+
 same-length-2 : tie.Need-same-length-2
 same-length-2 c = search needs
 
 returns-2 : tie.Need-returns-2
 returns-2 c =
-    let s = c .before .before .before .before .before .before .before .before .before .before .before .before .before .before .before .before .before .before .before .before .before .before .before .before .before .before .before in
+    let s = c .before .before .before .before .before .before .before .before .before .before .before .before .before .before .before .before .before .before .before .before .before .before .before .before .before .before .before .before .before .before .before in
     let a = s .args in
     let w = now (a .image) in
-    let q = c .before .before .before .before .before .before .before .before .before .before .before .before .before .before .before .before .before .before .room-for-bound .ensures (a .v) (a .side) (a .b) (c .before .before .before .before .before .before .before .before .before .before .before .before .before .before .before .before .before .before .before .before .before .before .repeats-bound .ensures) in
-    let j = joins w (a .v) (a .side) (a .b) _ _ (s .pre .1 .1 .1 .1) (c .before .before .before .before .before .before .before .before .before .before .before .before .before .before .before .before .before .before .before .before .count-bounds .ensures) q in
-    let m = bound-marked w _ _ (a .v) (a .side) (a .b) (c .before .before .before .before .before .before .before .before .before .before .before .before .before .before .add-bound .ensures) (c .before .before .before .before .before .before .before .before .before .before .pass-mark .ensures) in
+    let q = c .before .before .before .before .before .before .before .before .before .before .before .before .before .before .before .before .before .before .before .before .before .before .room-for-bound .ensures (a .v) (a .side) (a .b) (c .before .before .before .before .before .before .before .before .before .before .before .before .before .before .before .before .before .before .before .before .before .before .before .before .before .before .repeats-bound .ensures) in
+    let j = joins w (a .v) (a .side) (a .b) _ _ (s .pre .1 .1 .1 .1) (c .before .before .before .before .before .before .before .before .before .before .before .before .before .before .before .before .before .before .before .before .before .before .before .before .count-bounds .ensures) q in
+    let m = bound-marked w _ _ (a .v) (a .side) (a .b) (c .before .before .before .before .before .before .before .before .before .before .before .before .before .before .before .before .before .before .add-bound .ensures) (c .before .before .before .before .before .before .before .before .before .before .before .before .before .before .pass-mark .ensures) in
     let p = a .sub ⊑ a .sup in
-    bound-joined w p (a .v) (a .side) (a .b) _ _ j (c .before .before .before .before .before .before .before .before .before .before .before .before .before .before .before .before .enum-told .given .1) _ _ (then-advance m p (c .before .before .before .before .before .before .advance .ensures)) (c .before .before .put-bound-pairs .ensures)
+    bound-joined w p (a .v) (a .side) (a .b) _ _ j (c .before .before .before .before .before .before .before .before .before .before .before .before .before .before .before .before .before .before .before .before .enum-told .given .1) _ _ (then-advance m p (c .before .before .before .before .before .before .before .before .before .before .advance .ensures)) (stated (c .before .before .before .before .before .before .put-bound-pairs .ensures) (c .before .before .end-if-done .ensures))
 
 pub join-bounds-spec : {M : Type 1} → statement M
 join-bounds-spec =
@@ -111,5 +115,6 @@ join-bounds-spec =
     pass-mark-requires
     advance-requires
     put-bound-pairs-requires
+    end-if-done-requires
     same-length-2
     returns-2)

@@ -5,11 +5,11 @@ use borrow.Author.Needs.{needs}
 use Rattle.step.proofs.put_bound_pair.Statement.{statement}
 use Rattle.step.proofs.put_bound_pair.Tie as tie
 
-push-pending-requires : tie.Need-push-pending-requires
-push-pending-requires c κs = search needs
+put-consequence-requires : tie.Need-put-consequence-requires
+put-consequence-requires c κs = search needs
 
-push-pending-requires-2 : tie.Need-push-pending-requires-2
-push-pending-requires-2 c κs = search needs
+put-consequence-requires-2 : tie.Need-put-consequence-requires-2
+put-consequence-requires-2 c κs = search needs
 
 same-length : tie.Need-same-length
 same-length c = search needs
@@ -17,7 +17,7 @@ same-length c = search needs
 returns : tie.Need-returns
 returns c =
     let a = c .before .before .before .before .before .before .args in
-    pair-lower _ _ (a .side) (a .b) (a .x) (omega (arith, c .before .before .before .before .if1 .taken)) (c .before .before .push-pending .ensures)
+    pair-lower _ _ (a .side) (a .b) (a .x) (omega (arith, c .before .before .before .before .if1 .taken)) (c .before .before .put-consequence .ensures)
 
 same-length-2 : tie.Need-same-length-2
 same-length-2 c = search needs
@@ -25,14 +25,14 @@ same-length-2 c = search needs
 returns-2 : tie.Need-returns-2
 returns-2 c =
     let a = c .before .before .before .before .before .before .args in
-    pair-upper _ _ (a .side) (a .b) (a .x) (λ q. omega (arith, c .before .before .before .before .if1 .left, q)) (c .before .before .push-pending2 .ensures)
+    pair-upper _ _ (a .side) (a .b) (a .x) (λ q. omega (arith, c .before .before .before .before .if1 .left, q)) (c .before .before .put-consequence2 .ensures)
 
 pub put-bound-pair-spec : {M : Type 1} → statement M
 put-bound-pair-spec =
     tie.close
     (tie.spec
-    push-pending-requires
-    push-pending-requires-2
+    put-consequence-requires
+    put-consequence-requires-2
     same-length
     returns
     same-length-2

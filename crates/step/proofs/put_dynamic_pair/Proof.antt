@@ -5,7 +5,7 @@ use Rattle.step.proofs.put_dynamic_pair.Statement.{statement}
 use Rattle.step.proofs.put_dynamic_pair.Tie as tie
 use Rattle.step.proofs.put_dynamic_pair.Reads as reads
 use Rattle.step.proofs.put_dynamic_pair.Lts as lts
-use Rattle.image.proofs.push_pending.Reads as push-pending-reads
+use Rattle.image.proofs.put_consequence.Reads as put-consequence-reads
 
 enum-known-a : tie.Need-enum-known-a
 enum-known-a c = search needs
@@ -13,8 +13,8 @@ enum-known-a c = search needs
 enum-known-b : tie.Need-enum-known-b
 enum-known-b c = search needs
 
-push-pending-requires : tie.Need-push-pending-requires
-push-pending-requires c κs =
+put-consequence-requires : tie.Need-put-consequence-requires
+put-consequence-requires c κs =
     let p = c .before .before .before .before .before .before .before .before .pre in
     (p .0, pending-room _ (dynamic-both (c .before .before .before .before .before .a .given .1) (c .before .before .b .given .1)) (p .1))
 
@@ -30,7 +30,7 @@ same-length c = search needs
 returns : tie.Need-returns
 returns c =
     pending-one _ (dynamic-both (c .before .before .before .before .before .before .before .before .a .given .1) (c .before .before .before .before .before .b .given .1))
-    (c .before .before .push-pending .ensures)
+    (c .before .before .put-consequence .ensures)
 
 returns-2 : tie.Need-returns-2
 returns-2 c =
@@ -47,7 +47,7 @@ put-dynamic-pair-spec =
     (tie.spec
     enum-known-a
     enum-known-b
-    push-pending-requires
+    put-consequence-requires
     enum-told
     enum-told-2
     same-length

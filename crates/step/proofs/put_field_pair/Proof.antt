@@ -1,7 +1,7 @@
 -- The field asks for a pair, which is put, or for none.
 use native.Mathlib.Omega.{arith}
 use mathlib.Core.Path.{sym, _∙_}
-use Rattle.image.proofs.Laying.{shown-laid}
+use Rattle.image.proofs.Laying.{as-laid}
 use Rattle.step.proofs.FieldPairs.{pending-none, pending-one, pending-room, field-under, field-asked, field-free}
 use borrow.Author.Needs.{needs}
 use Rattle.step.proofs.put_field_pair.Statement.{statement}
@@ -10,10 +10,10 @@ use Rattle.step.proofs.put_field_pair.Reads as reads
 use Rattle.step.proofs.put_field_pair.Lts as lts
 use Rattle.constrain.proofs.asks.Reads as asks-reads
 use Rattle.image.proofs.field_word.Reads as field-word-reads
-use Rattle.image.proofs.push_pending.Reads as push-pending-reads
+use Rattle.image.proofs.put_consequence.Reads as put-consequence-reads
 
 asks-requires : tie.Need-asks-requires
-asks-requires c κs = let p = c .before .before .pre in (shown-laid (p .0), (p .1 .0, p .1 .1 .0))
+asks-requires c κs = let p = c .before .before .pre in (as-laid (p .0), (p .1 .0, p .1 .1 .0))
 
 enum-known-ask : tie.Need-enum-known-ask
 enum-known-ask c = search needs
@@ -21,10 +21,10 @@ enum-known-ask c = search needs
 field-word-requires : tie.Need-field-word-requires
 field-word-requires c κs =
     let p = c .before .before .before .before .before .before .before .pre in
-    (shown-laid (p .0), (p .1 .1 .0, omega arith))
+    (as-laid (p .0), (p .1 .1 .0, omega arith))
 
-push-pending-requires : tie.Need-push-pending-requires
-push-pending-requires c κs =
+put-consequence-requires : tie.Need-put-consequence-requires
+put-consequence-requires c κs =
     let s = c .before .before .before .before .before .before .before .before .before in (
       s .pre .0,
       pending-room _
@@ -42,7 +42,7 @@ returns c =
     (field-asked _ (s .args .a) (s .args .j)
     (sym (c .before .before .before .before .before .before .before .before .before .asks .ensures) ∙ c .before .before .before .before .before .before .before .ask .given .1)
     (c .before .before .before .before .field-word .ensures))
-    (c .before .before .push-pending .ensures)
+    (c .before .before .put-consequence .ensures)
 
 same-length-2 : tie.Need-same-length-2
 same-length-2 c = search needs
@@ -59,7 +59,7 @@ put-field-pair-spec =
     asks-requires
     enum-known-ask
     field-word-requires
-    push-pending-requires
+    put-consequence-requires
     same-length
     returns
     same-length-2

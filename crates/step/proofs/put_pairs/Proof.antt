@@ -5,7 +5,7 @@ use Rattle.step.proofs.put_pairs.Statement.{statement}
 use Rattle.step.proofs.put_pairs.Tie as tie
 use Rattle.step.proofs.put_pairs.Reads as reads
 use Rattle.step.proofs.put_pairs.Lts as lts
-use Rattle.image.proofs.push_pending.Reads as push-pending-reads
+use Rattle.image.proofs.put_consequence.Reads as put-consequence-reads
 use Rattle.step.proofs.put_field_pairs.Reads as put-field-pairs-reads
 
 enum-told : tie.Need-enum-told
@@ -16,20 +16,20 @@ enum-known-pairs : tie.Need-enum-known-pairs
 enum-known-pairs c = search needs
 
 -- src/lib.rt:212:29
-push-pending-requires : tie.Need-push-pending-requires
-push-pending-requires c κs = (c .before .before .before .before .before .pre .0, one-fits _ _ _ _ (c .before .before .pairs .given .1) (c .before .before .before .before .before .pre .1 .1))
+put-consequence-requires : tie.Need-put-consequence-requires
+put-consequence-requires c κs = (c .before .before .before .before .before .pre .0, one-fits _ _ _ _ (c .before .before .pairs .given .1) (c .before .before .before .before .before .pre .1 .1))
 
 -- src/lib.rt:213:20
 enum-known-pairs-2 : tie.Need-enum-known-pairs-2
 enum-known-pairs-2 c = search needs
 
 -- src/lib.rt:214:13
-push-pending-requires-2 : tie.Need-push-pending-requires-2
-push-pending-requires-2 c κs = (c .before .before .before .before .before .pre .0, two-fit _ _ _ _ _ _ (c .before .before .pairs2 .given .1) (c .before .before .before .before .before .pre .1 .1))
+put-consequence-requires-2 : tie.Need-put-consequence-requires-2
+put-consequence-requires-2 c κs = (c .before .before .before .before .before .pre .0, two-fit _ _ _ _ _ _ (c .before .before .pairs2 .given .1) (c .before .before .before .before .before .pre .1 .1))
 
 -- src/lib.rt:215:13
-push-pending-requires-3 : tie.Need-push-pending-requires-3
-push-pending-requires-3 c κs = second-fits _ _ _ _ _ _ (c .before .before .before .before .before .before .pairs2 .given .1) _ (c .before .before .before .push-pending2 .ensures) (c .before .before .before .before .before .before .before .before .before .pre .1 .1)
+put-consequence-requires-3 : tie.Need-put-consequence-requires-3
+put-consequence-requires-3 c κs = second-fits _ _ _ _ _ _ (c .before .before .before .before .before .before .pairs2 .given .1) _ (c .before .before .before .put-consequence2 .ensures) (c .before .before .before .before .before .before .before .before .before .pre .1 .1)
 
 -- src/lib.rt:217:23
 enum-known-pairs-3 : tie.Need-enum-known-pairs-3
@@ -49,7 +49,7 @@ same-length c = search needs
 
 -- src/lib.rt:204:1
 returns-2 : tie.Need-returns-2
-returns-2 c = put-one _ _ _ _ (c .before .before .before .before .before .pairs .given .1) _ (c .before .before .push-pending .ensures)
+returns-2 c = put-one _ _ _ _ (c .before .before .before .before .before .pairs .given .1) _ (c .before .before .put-consequence .ensures)
 
 -- src/lib.rt:204:1
 same-length-2 : tie.Need-same-length-2
@@ -57,7 +57,7 @@ same-length-2 c = search needs
 
 -- src/lib.rt:204:1
 returns-3 : tie.Need-returns-3
-returns-3 c = put-two _ _ _ _ _ _ (c .before .before .before .before .before .before .before .before .before .pairs2 .given .1) _ (c .before .before .before .before .before .before .push-pending2 .ensures) _ (c .before .before .push-pending3 .ensures)
+returns-3 c = put-two _ _ _ _ _ _ (c .before .before .before .before .before .before .before .before .before .pairs2 .given .1) _ (c .before .before .before .before .before .before .put-consequence2 .ensures) _ (c .before .before .put-consequence3 .ensures)
 
 -- src/lib.rt:204:1
 same-length-3 : tie.Need-same-length-3
@@ -73,10 +73,10 @@ put-pairs-spec =
     (tie.spec
     enum-told
     enum-known-pairs
-    push-pending-requires
+    put-consequence-requires
     enum-known-pairs-2
-    push-pending-requires-2
-    push-pending-requires-3
+    put-consequence-requires-2
+    put-consequence-requires-3
     enum-known-pairs-3
     put-field-pairs-requires
     returns

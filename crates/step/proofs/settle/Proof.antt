@@ -1,5 +1,6 @@
 -- Each place hands what it knows to the laws of Settling.
-use Rattle.image.proofs.Laying.{shown-laid}
+use Rattle.image.proofs.Laying.{shown-laid, shown-as}
+use Rattle.image.proofs.Pending.{stated}
 use Rattle.step.proofs.Settling.{settle-full, settle-deep, settle-push, settle-went}
 use borrow.Author.Needs.{needs}
 use Rattle.step.proofs.settle.Statement.{statement}
@@ -43,18 +44,21 @@ returns-2 c =
 advance-requires : tie.Need-advance-requires
 advance-requires c κs = search needs
 
-push-pending-requires : tie.Need-push-pending-requires
-push-pending-requires c κs =
+put-consequence-requires : tie.Need-put-consequence-requires
+put-consequence-requires c κs =
     let p = c .before .before .before .before .before .before .before .before .before .before .before .before .before .before .pre in
     settle-push _ (p .0) (p .1 .0) _ _ (c .before .before .before .advance .ensures)
+
+end-if-done-requires : tie.Need-end-if-done-requires
+end-if-done-requires c κs = shown-as (c .before .before .before .put-consequence .ensures)
 
 same-length-3 : tie.Need-same-length-3
 same-length-3 c = search needs
 
 returns-3 : tie.Need-returns-3
 returns-3 c =
-    let p = c .before .before .before .before .before .before .before .before .before .before .before .before .before .before .before .before .before .pre in
-    settle-went _ _ _ _ (p .0) (p .1 .0) _ _ (c .before .before .before .before .before .before .before .before .before .before .before .before .visited-count .ensures) (c .before .before .before .before .before .before .before .before .before .before .before .before .before .before .visited-capacity .ensures) (c .before .before .before .before .before .before .before .before .before .before .before .if1 .left) _ (c .before .before .before .before .before .before .before .before .before .is-deep .ensures) (c .before .before .before .before .before .before .before .before .if2 .left) _ (c .before .before .before .before .before .before .advance .ensures) _ (c .before .before .push-pending .ensures)
+    let p = c .before .before .before .before .before .before .before .before .before .before .before .before .before .before .before .before .before .before .before .before .before .pre in
+    settle-went _ _ _ _ (p .0) (p .1 .0) _ _ (c .before .before .before .before .before .before .before .before .before .before .before .before .before .before .before .before .visited-count .ensures) (c .before .before .before .before .before .before .before .before .before .before .before .before .before .before .before .before .before .before .visited-capacity .ensures) (c .before .before .before .before .before .before .before .before .before .before .before .before .before .before .before .if1 .left) _ (c .before .before .before .before .before .before .before .before .before .before .before .before .before .is-deep .ensures) (c .before .before .before .before .before .before .before .before .before .before .before .before .if2 .left) _ (c .before .before .before .before .before .before .before .before .before .before .advance .ensures) _ (stated (c .before .before .before .before .before .before .put-consequence .ensures) (c .before .before .end-if-done .ensures))
 
 pub settle-spec : {M : Type 1} → statement M
 settle-spec =
@@ -70,6 +74,7 @@ settle-spec =
     same-length-2
     returns-2
     advance-requires
-    push-pending-requires
+    put-consequence-requires
+    end-if-done-requires
     same-length-3
     returns-3)

@@ -14,9 +14,9 @@ use Rattle.step.proofs.take_step.Lts as lts
 use Rattle.constrain.proofs.constrain.Reads as constrain-reads
 use Rattle.image.proofs.pending_count.Reads as pending-count-reads
 use Rattle.image.proofs.pending_word.Reads as pending-word-reads
-use Rattle.image.proofs.pop_pending.Reads as pop-pending-reads
 use Rattle.image.proofs.visited_has.Reads as visited-has-reads
 use Rattle.step.proofs.apply.Reads as apply-reads
+use Rattle.step.proofs.skip.Reads as skip-reads
 
 -- src/lib.rt:482:16
 pending-count-requires : tie.Need-pending-count-requires
@@ -35,8 +35,8 @@ pending-word-requires-2 : tie.Need-pending-word-requires-2
 pending-word-requires-2 c κs = (formed-laid _ (c .before .before .before .before .before .before .pre .0), (omega (arith, c .before .before .before .pending-count .ensures, c .before .before .before .before .before .before .pre .1), omega arith))
 
 -- src/lib.rt:486:9
-pop-pending-requires : tie.Need-pop-pending-requires
-pop-pending-requires c κs = (formed-shown _ (c .before .before .before .before .before .before .before .before .before .pre .0), c .before .before .before .before .before .before .before .before .before .pre .1)
+skip-requires : tie.Need-skip-requires
+skip-requires c κs = (formed-shown _ (c .before .before .before .before .before .before .before .before .before .pre .0), c .before .before .before .before .before .before .before .before .before .pre .1)
 
 -- src/lib.rt:487:9
 same-length : tie.Need-same-length
@@ -44,15 +44,15 @@ same-length c = search needs
 
 -- src/lib.rt:487:9
 returns : tie.Need-returns
-returns c = step-equal _ (c .before .before .before .before .before .before .before .before .before .before .before .before .pre .0) (c .before .before .before .before .before .before .before .before .before .before .before .before .pre .1) _ _ (last-sub (pendingIn (now (c .before .before .before .before .before .before .before .before .before .before .before .before .args .image))) _ _ (c .before .before .before .before .before .before .before .before .before .pending-count .ensures) (c .before .before .before .before .before .before .before .pending-word .ensures)) (last-sup (pendingIn (now (c .before .before .before .before .before .before .before .before .before .before .before .before .args .image))) _ _ (c .before .before .before .before .before .before .before .before .before .pending-count .ensures) (c .before .before .before .before .before .pending-word2 .ensures)) _ (c .before .before .pop-pending .ensures) (c .before .before .before .before .if1 .taken)
+returns c = step-equal _ (c .before .before .before .before .before .before .before .before .before .before .before .before .pre .0) (c .before .before .before .before .before .before .before .before .before .before .before .before .pre .1) _ _ (last-sub (pendingIn (now (c .before .before .before .before .before .before .before .before .before .before .before .before .args .image))) _ _ (c .before .before .before .before .before .before .before .before .before .pending-count .ensures) (c .before .before .before .before .before .before .before .pending-word .ensures)) (last-sup (pendingIn (now (c .before .before .before .before .before .before .before .before .before .before .before .before .args .image))) _ _ (c .before .before .before .before .before .before .before .before .before .pending-count .ensures) (c .before .before .before .before .before .pending-word2 .ensures)) _ (c .before .before .skip .ensures) (c .before .before .before .before .if1 .taken)
 
 -- src/lib.rt:489:8
 visited-has-requires : tie.Need-visited-has-requires
 visited-has-requires c κs = formed-laid _ (c .before .before .before .before .before .before .before .before .before .pre .0)
 
 -- src/lib.rt:490:9
-pop-pending-requires-2 : tie.Need-pop-pending-requires-2
-pop-pending-requires-2 c κs = (formed-shown _ (c .before .before .before .before .before .before .before .before .before .before .before .before .pre .0), c .before .before .before .before .before .before .before .before .before .before .before .before .pre .1)
+skip-requires-2 : tie.Need-skip-requires-2
+skip-requires-2 c κs = (formed-shown _ (c .before .before .before .before .before .before .before .before .before .before .before .before .pre .0), c .before .before .before .before .before .before .before .before .before .before .before .before .pre .1)
 
 -- src/lib.rt:491:9
 same-length-2 : tie.Need-same-length-2
@@ -60,7 +60,7 @@ same-length-2 c = search needs
 
 -- src/lib.rt:491:9
 returns-2 : tie.Need-returns-2
-returns-2 c = step-visited _ (c .before .before .before .before .before .before .before .before .before .before .before .before .before .before .before .pre .0) (c .before .before .before .before .before .before .before .before .before .before .before .before .before .before .before .pre .1) _ _ (last-sub (pendingIn (now (c .before .before .before .before .before .before .before .before .before .before .before .before .before .before .before .args .image))) _ _ (c .before .before .before .before .before .before .before .before .before .before .before .before .pending-count .ensures) (c .before .before .before .before .before .before .before .before .before .before .pending-word .ensures)) (last-sup (pendingIn (now (c .before .before .before .before .before .before .before .before .before .before .before .before .before .before .before .args .image))) _ _ (c .before .before .before .before .before .before .before .before .before .before .before .before .pending-count .ensures) (c .before .before .before .before .before .before .before .before .pending-word2 .ensures)) _ (c .before .before .pop-pending2 .ensures) (sym (c .before .before .before .before .before .visited-has .ensures) ∙ c .before .before .before .before .if2 .taken)
+returns-2 c = step-visited _ (c .before .before .before .before .before .before .before .before .before .before .before .before .before .before .before .pre .0) (c .before .before .before .before .before .before .before .before .before .before .before .before .before .before .before .pre .1) _ _ (last-sub (pendingIn (now (c .before .before .before .before .before .before .before .before .before .before .before .before .before .before .before .args .image))) _ _ (c .before .before .before .before .before .before .before .before .before .before .before .before .pending-count .ensures) (c .before .before .before .before .before .before .before .before .before .before .pending-word .ensures)) (last-sup (pendingIn (now (c .before .before .before .before .before .before .before .before .before .before .before .before .before .before .before .args .image))) _ _ (c .before .before .before .before .before .before .before .before .before .before .before .before .pending-count .ensures) (c .before .before .before .before .before .before .before .before .pending-word2 .ensures)) _ (c .before .before .skip2 .ensures) (sym (c .before .before .before .before .before .visited-has .ensures) ∙ c .before .before .before .before .if2 .taken)
 
 -- src/lib.rt:493:9
 constrain-requires : tie.Need-constrain-requires
@@ -90,11 +90,11 @@ take-step-spec =
     sub-last
     pending-word-requires
     pending-word-requires-2
-    pop-pending-requires
+    skip-requires
     same-length
     returns
     visited-has-requires
-    pop-pending-requires-2
+    skip-requires-2
     same-length-2
     returns-2
     constrain-requires

@@ -1,0 +1,30 @@
+-- `end_question`: ends the question, whatever is pending.
+use Rattle.image.proofs.Laying.{shown-as}
+use Rattle.image.proofs.Pending.{stated}
+use borrow.Author.Needs.{needs}
+use Rattle.image.proofs.end_question.Statement.{statement}
+use Rattle.image.proofs.end_question.Tie as tie
+use Rattle.image.proofs.end_question.Reads as reads
+use Rattle.image.proofs.end_question.Lts as lts
+use Rattle.image.proofs.clear_pending.Reads as clear-pending-reads
+use Rattle.image.proofs.end_if_done.Reads as end-if-done-reads
+
+-- src/lib.rt:783:5
+clear-pending-requires : tie.Need-clear-pending-requires
+clear-pending-requires c κs = search needs
+
+-- src/lib.rt:784:5
+end-if-done-requires : tie.Need-end-if-done-requires
+end-if-done-requires c κs = shown-as (c .before .before .before .clear-pending .ensures)
+
+-- src/lib.rt:779:1
+same-length : tie.Need-same-length
+same-length c = search needs
+
+-- src/lib.rt:779:1
+returns : tie.Need-returns
+returns c = stated (c .before .before .before .before .before .before .clear-pending .ensures) (c .before .before .end-if-done .ensures)
+
+pub end-question-spec : {M : Type 1} → statement M
+end-question-spec =
+    tie.close (tie.spec clear-pending-requires end-if-done-requires same-length returns)
