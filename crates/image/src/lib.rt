@@ -8,12 +8,11 @@ use model::Refusal;
 use model::Reply;
 ghost use mathlib.Core.Path.{_≡_};
 ghost use mathlib.Core.List.{[], _∷_, _++_};
-ghost use mathlib.Core.Bool.{cond};
 ghost use Prim.Native.Nat.{_+_, _-_, _*_, _≤_, _<_};
 ghost use lib.ListN.{length, set, take, drop, replicate};
 ghost use lib.Seq.{sets};
 ghost use Rattle.model.specs.Format.{wordEnd, formatAt, formatWord, namesAt, functorAt, idle, asked, entryWidth, fieldWidth, boundWidth, visitedWidth, pendingWidth, equalsWidth};
-ghost use Rattle.model.specs.Lists.{isZero, any, readMany};
+ghost use Rattle.model.specs.Lists.{any, readMany};
 ghost use Rattle.model.specs.Table.{_⊑_, entryAt, isAsked};
 ghost use Rattle.model.specs.Image.{word, count, table, imageLength, visitedOf, entryWords, fieldWords, boundWords, visitedWords, pendingWords, equalWords};
 ghost use Rattle.model.specs.Making.{changed, withNegation, withMark};
@@ -716,8 +715,8 @@ pub fn push_equal(image: &mut [u32], left: u32, right: u32)
     append_pair(image, EQUALS_OFFSET_AT, EQUALS_COUNT_AT, left, right);
 }
 
-// The state word is written where a question is opened and where it is ended, and nowhere else: what puts pairs on pending and takes
-// them off leaves it.
+// After start the state word is written where a question is opened and where it is ended, and nowhere else: what puts pairs on pending
+// and takes them off leaves it.
 
 // Puts a question's own pair behind the last pending one.
 pub fn put_asked(image: &mut [u32], sub: u32, sup: u32)
