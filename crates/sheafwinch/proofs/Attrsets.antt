@@ -6,7 +6,7 @@ use mathlib.Core.Bool.{Bool, true, false, _&&_, and-false}
 use lib.ListN.{length}
 use lib.Dec.{ltb}
 use Rattle.model.specs.Lists.{all}
-use Rattle.model.specs.Table.{Entry, Field, isAsked}
+use Rattle.model.specs.Table.{Entry, isAsked}
 use Rattle.model.specs.Image.{table}
 use Rattle.model.specs.Formed.{isEntry}
 use Rattle.model.specs.Calls.{replyOf, fieldList, fieldsListed, dynamicKnown, attrsetTurn}

@@ -559,8 +559,8 @@ fn visited_record(image: &[u32], n: u32) -> Record
     if image::visited_count(image) <= n {
         return Record::Refused(Refusal::BadNumber);
     }
-    let sub_word = image::visited_word(image, n, image::SUB_WORD);
-    let sup_word = image::visited_word(image, n, image::SUP_WORD);
+    let sub_word = image::visited_word(image, n, image::VISITED_SUB_WORD);
+    let sup_word = image::visited_word(image, n, image::VISITED_SUP_WORD);
     Record::Visited {
         sub: sub_word,
         sup: sup_word,
@@ -575,8 +575,8 @@ fn pending_record(image: &[u32], n: u32) -> Record
     if image::pending_count(image) <= n {
         return Record::Refused(Refusal::BadNumber);
     }
-    let sub_word = image::pending_word(image, n, image::SUB_WORD);
-    let sup_word = image::pending_word(image, n, image::SUP_WORD);
+    let sub_word = image::pending_word(image, n, image::PENDING_SUB_WORD);
+    let sup_word = image::pending_word(image, n, image::PENDING_SUP_WORD);
     Record::Pending {
         sub: sub_word,
         sup: sup_word,
@@ -591,8 +591,8 @@ fn equal_record(image: &[u32], n: u32) -> Record
     if image::equals_count(image) <= n {
         return Record::Refused(Refusal::BadNumber);
     }
-    let left_word = image::equal_word(image, n, image::SUB_WORD);
-    let right_word = image::equal_word(image, n, image::SUP_WORD);
+    let left_word = image::equal_word(image, n, image::EQUAL_LEFT_WORD);
+    let right_word = image::equal_word(image, n, image::EQUAL_RIGHT_WORD);
     Record::Equal {
         left: left_word,
         right: right_word,

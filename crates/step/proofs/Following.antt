@@ -5,7 +5,7 @@ use mathlib.Core.Path.{_≡_, refl, sym, ap, subst, _∙_}
 use mathlib.Core.List.{List, [], _∷_, _++_, reverse, append-nil, append-assoc}
 use lib.ListN.{length, length-append}
 use Rattle.instalments.specs.Machine.{goes}
-use Rattle.model.specs.Table.{Field, Pair, _⊑_, Store, Table, tableOf, withVisited}
+use Rattle.model.specs.Table.{Field, Pair, _⊑_, Table, tableOf, withVisited}
 use Rattle.model.specs.Image.{table}
 use Rattle.model.specs.Rules.{visit}
 use Rattle.model.specs.Room.{fitting, roomFor}
@@ -23,7 +23,7 @@ use Rattle.step.specs.Put.{countIn}
 use Rattle.step.specs.declared.Step.the-variants.{Went, Refused}
 use Rattle.step.specs.declared.Room.{Room as RoomFound}
 use Rattle.step.specs.declared.Room.the-variants.{Enough, Lacks}
-use Rattle.step.proofs.Rooms.{Fits, fits, room-found}
+use Rattle.step.proofs.Rooms.{fits, room-found}
 use Rattle.step.proofs.Taking.{Answers, refused, went}
 
 -- as many as are told

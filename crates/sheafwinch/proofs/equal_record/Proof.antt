@@ -11,7 +11,7 @@ use Rattle.model.specs.Format.{isRegion, widthOf}
 use Rattle.model.specs.Image.{count, table}
 use Rattle.model.specs.Calls.{readRecordTurn, replyOf}
 use Rattle.model.specs.Told.{done}
-use Rattle.laws.proofs.Regions.{pair-coded}
+use Rattle.laws.proofs.Regions.{equal-coded}
 use Rattle.image.proofs.Laying.{formed-laid}
 use Rattle.image.proofs.Reading.{equals-count as equals-are}
 use Rattle.model.specs.declared.Refusal.the-variants.{BadNumber}
@@ -49,7 +49,7 @@ returns-2 c =
     let l = formed-laid w (s .pre) in
     let lt : n < count w 6 = omega (arith, c .before .before .before .equals-count .ensures, equals-are w) in
     read-on w BadNumber _ (isRegion 6 && ltb n (count w 6)) (a-record w 6 n refl lt)
-    (rw (c .before .equal-word .ensures, c .equal-word2 .ensures) (ap (λ (x : List ℕ). done (6 ∷ x)) (record-words pair-coded w 6 n _ lt (omega arith))))
+    (rw (c .before .equal-word .ensures, c .equal-word2 .ensures) (ap (λ (x : List ℕ). done (6 ∷ x)) (record-words equal-coded w 6 n _ lt (omega arith))))
 
 pub equal-record-spec : {M : Type 1} → statement M
 equal-record-spec =

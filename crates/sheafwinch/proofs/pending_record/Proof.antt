@@ -11,7 +11,7 @@ use Rattle.model.specs.Format.{isRegion, widthOf}
 use Rattle.model.specs.Image.{count, table}
 use Rattle.model.specs.Calls.{readRecordTurn, replyOf}
 use Rattle.model.specs.Told.{done}
-use Rattle.laws.proofs.Regions.{pair-coded}
+use Rattle.laws.proofs.Regions.{pending-coded}
 use Rattle.image.proofs.Laying.{formed-laid}
 use Rattle.image.proofs.Reading.{pending-count as pending-are}
 use Rattle.model.specs.declared.Refusal.the-variants.{BadNumber}
@@ -49,7 +49,7 @@ returns-2 c =
     let l = formed-laid w (s .pre) in
     let lt : n < count w 5 = omega (arith, c .before .before .before .pending-count .ensures, pending-are w) in
     read-on w BadNumber _ (isRegion 5 && ltb n (count w 5)) (a-record w 5 n refl lt)
-    (rw (c .before .pending-word .ensures, c .pending-word2 .ensures) (ap (λ (x : List ℕ). done (5 ∷ x)) (record-words pair-coded w 5 n _ lt (omega arith))))
+    (rw (c .before .pending-word .ensures, c .pending-word2 .ensures) (ap (λ (x : List ℕ). done (5 ∷ x)) (record-words pending-coded w 5 n _ lt (omega arith))))
 
 pub pending-record-spec : {M : Type 1} → statement M
 pending-record-spec =

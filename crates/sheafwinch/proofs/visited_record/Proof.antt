@@ -11,7 +11,7 @@ use Rattle.model.specs.Format.{isRegion, widthOf}
 use Rattle.model.specs.Image.{count, table}
 use Rattle.model.specs.Calls.{readRecordTurn, replyOf}
 use Rattle.model.specs.Told.{done}
-use Rattle.laws.proofs.Regions.{pair-coded}
+use Rattle.laws.proofs.Regions.{visited-coded}
 use Rattle.image.proofs.Laying.{formed-laid}
 use Rattle.image.proofs.Reading.{visited-count as visited-are}
 use Rattle.model.specs.declared.Refusal.the-variants.{BadNumber}
@@ -49,7 +49,7 @@ returns-2 c =
     let l = formed-laid w (s .pre) in
     let lt : n < count w 4 = omega (arith, c .before .before .before .visited-count .ensures, visited-are w) in
     read-on w BadNumber _ (isRegion 4 && ltb n (count w 4)) (a-record w 4 n refl lt)
-    (rw (c .before .visited-word .ensures, c .visited-word2 .ensures) (ap (λ (x : List ℕ). done (4 ∷ x)) (record-words pair-coded w 4 n _ lt (omega arith))))
+    (rw (c .before .visited-word .ensures, c .visited-word2 .ensures) (ap (λ (x : List ℕ). done (4 ∷ x)) (record-words visited-coded w 4 n _ lt (omega arith))))
 
 pub visited-record-spec : {M : Type 1} → statement M
 visited-record-spec =
