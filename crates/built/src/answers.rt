@@ -4,6 +4,7 @@
 use crate::print;
 use crate::print_number;
 use model::Answer;
+use model::Carried;
 use model::Instalment;
 use model::Made;
 use model::Refusal;
@@ -67,22 +68,19 @@ fn print_refused(r: Refusal, is_same: bool) {
     }
 }
 
-// The refusals that the calls here may give, as 01 numbers them.
+// A refusal, as 01 numbers it, and the region that is full.
 fn print_refusal(r: Refusal) {
-    match r {
-        Refusal::BadTable => print(b"r1"),
-        Refusal::BadNumber => print(b"r2"),
-        Refusal::Busy => print(b"r3"),
-        Refusal::Idle => print(b"r4"),
-        Refusal::NoRoom(region) => print_room(region),
-        Refusal::TooDeep => print(b"r6"),
-        _ => print(b"ANOTHER"),
+    print(b"r");
+    print_number(refusals::number(r));
+    match refusals::carried(r) {
+        Carried::Region(region) => print_room(region),
+        _ => {}
     }
 }
 
-// The refusal of a region that is full.
+// The region that is full.
 fn print_room(region: u32) {
-    print(b"r5(");
+    print(b"(");
     print_number(region);
     print(b")");
 }

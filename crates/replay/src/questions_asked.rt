@@ -1,7 +1,6 @@
 // The lines of questions. A question is worked in five instalments: 0 to 3 steps, 1, 2, 3, and the rest: what is left of the limit
 // where the Rust was stopped, else all that a budget can say.
 use crate::compared::done;
-use crate::compared::refusal_number;
 use crate::tally::ANSWERS;
 use crate::tally::INSTALMENTS;
 use crate::tally::QUESTIONS;
@@ -104,7 +103,7 @@ fn work_on(words: &mut [u32], tally: &mut [u32; 96], w: Worked, budget: u32) -> 
         Answer::Yes => ended(YES, 0, 0, 0, steps),
         Answer::More => stopped(tally, budget, r.steps, steps, left),
         Answer::Failed(f) => failed(f, steps),
-        Answer::Refused(r) => ended(REFUSED + refusal_number(r), 0, 0, 0, steps),
+        Answer::Refused(r) => ended(REFUSED + refusals::number(r), 0, 0, 0, steps),
     }
 }
 

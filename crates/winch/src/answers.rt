@@ -1,10 +1,12 @@
 // What the calls answer, told on one line: refusals by their number and name in 01.
 use crate::print::print;
 use crate::print::print_next;
-use crate::text::line;
+use model::Carried;
 use model::Made;
 use model::Refusal;
 use model::Reply;
+use telling::print_name;
+use telling::print_region;
 
 // Tells an answer that is one word.
 pub fn tell(fd: i32, answer: &[u8]) {
@@ -49,16 +51,17 @@ fn tell_entry(fd: i32, n: u32, entries: u32) {
     print(fd, b"\n");
 }
 
-// A refusal, by its number and its name in 01.
+// A refusal, by its number and its name in 01, and what it carries.
 pub fn print_refusal(fd: i32, names: &[u8], r: Refusal) {
     print(fd, b"refused ");
-    print_name(fd, refusal_number(r));
-    match r {
-        Refusal::NoRoom(region) => {
+    print_name(fd, r);
+    match refusals::carried(r) {
+        Carried::Nothing => {}
+        Carried::Region(region) => {
             print(fd, b" ");
             print_region(fd, region);
         }
-        Refusal::Broken {
+        Carried::Break {
             kind,
             sub,
             sup,
@@ -67,61 +70,7 @@ pub fn print_refusal(fd: i32, names: &[u8], r: Refusal) {
             print(fd, b" ");
             print_break(fd, names, kind, sub, sup, name);
         }
-        _ => {}
     }
-}
-
-// A refusal's number in 01.
-fn refusal_number(r: Refusal) -> u32 {
-    match r {
-        Refusal::BadTable => 1,
-        Refusal::BadNumber => 2,
-        Refusal::Busy => 3,
-        Refusal::Idle => 4,
-        Refusal::NoRoom(_) => 5,
-        Refusal::TooDeep => 6,
-        Refusal::BadFields => 7,
-        Refusal::Broken {
-            kind: _,
-            sub: _,
-            sup: _,
-            name: _,
-        } => 8,
-        Refusal::BadCapacity => 9,
-        Refusal::Level => 10,
-        Refusal::NotAVariable => 11,
-        Refusal::BadNames => 12,
-    }
-}
-
-// A refusal's number and name.
-fn print_name(fd: i32, number: u32) {
-    let lines = b"0
-1 BAD TABLE
-2 BAD NUMBER
-3 BUSY
-4 IDLE
-5 NO ROOM
-6 TOO DEEP
-7 BAD FIELDS
-8 BROKEN
-9 BAD CAPACITY
-10 LEVEL
-11 NOT A VARIABLE
-12 BAD NAMES";
-    print(fd, line(lines, number));
-}
-
-// A region's name.
-pub fn print_region(fd: i32, region: u32) {
-    let lines = b"0
-entries
-fields
-bounds
-visited
-pending
-equals";
-    print(fd, line(lines, region));
 }
 
 // Why a question failed: the kind as in 01's break words, the pair, and the name of a field that is missing.

@@ -1,6 +1,5 @@
 // The verbs that read the table, and the operators.
 use crate::answers::print_break;
-use crate::answers::print_region;
 use crate::answers::tell;
 use crate::answers::tell_refusal;
 use crate::args::Arg;
@@ -25,6 +24,7 @@ use model::Disjointness;
 use model::EntryRead;
 use model::Record;
 use operators::Resolved;
+use telling::print_region;
 
 // As many regions as there are: the number of the last.
 const REGIONS: u32 = image::EQUALS;
@@ -191,37 +191,37 @@ pub fn tell_state(fd: i32, names: &[u8], words: &[u32]) {
 fn print_regions(fd: i32, words: &[u32]) {
     print_count(
         fd,
-        b" entries ",
+        image::ENTRIES,
         word(words, image::ENTRIES_COUNT_AT),
         word(words, image::ENTRIES_CAPACITY_AT),
     );
     print_count(
         fd,
-        b" fields ",
+        image::FIELDS,
         word(words, image::FIELDS_COUNT_AT),
         word(words, image::FIELDS_CAPACITY_AT),
     );
     print_count(
         fd,
-        b" bounds ",
+        image::BOUNDS,
         word(words, image::BOUNDS_COUNT_AT),
         word(words, image::BOUNDS_CAPACITY_AT),
     );
     print_count(
         fd,
-        b" visited ",
+        image::VISITED,
         word(words, image::VISITED_COUNT_AT),
         word(words, image::VISITED_CAPACITY_AT),
     );
     print_count(
         fd,
-        b" pending ",
+        image::PENDING,
         word(words, image::PENDING_COUNT_AT),
         word(words, image::PENDING_CAPACITY_AT),
     );
     print_count(
         fd,
-        b" equals ",
+        image::EQUALS,
         word(words, image::EQUALS_COUNT_AT),
         word(words, image::EQUALS_CAPACITY_AT),
     );
@@ -245,8 +245,10 @@ fn print_broken(fd: i32, names: &[u8], words: &[u32]) {
 }
 
 // A region's count and capacity.
-fn print_count(fd: i32, name: &[u8], count: u32, capacity: u32) {
-    print(fd, name);
+fn print_count(fd: i32, region: u32, count: u32, capacity: u32) {
+    print(fd, b" ");
+    print_region(fd, region);
+    print(fd, b" ");
     print_number(fd, count);
     print(fd, b"/");
     print_number(fd, capacity);

@@ -35,28 +35,6 @@ pub fn line_end(script: &[u8], from: usize) -> usize
     at
 }
 
-// A line of a text, from 0 on; the empty part past the last.
-pub fn line(text: &[u8], n: u32) -> &[u8] {
-    let mut start: usize = 0;
-    let mut left = n;
-    while 0 < left {
-        if text.len() < start {
-            return part(text, 0, 0);
-        }
-        start = line_end(text, start) + 1;
-        left -= 1;
-    }
-    line_from(text, start)
-}
-
-// The line from a place on.
-fn line_from(text: &[u8], start: usize) -> &[u8] {
-    if text.len() < start {
-        return part(text, 0, 0);
-    }
-    part(text, start, line_end(text, start))
-}
-
 // Where a line's words end: at its comment, if it has one.
 pub fn content_end(script: &[u8], from: usize, end: usize) -> usize
     requires { ⌜ from ≤ end ⌝ }
