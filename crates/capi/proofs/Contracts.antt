@@ -7,15 +7,13 @@ use mathlib.Core.Path.{_≡_, refl, sym, ap, _∙_, subst}
 use mathlib.Core.List.{List, [], _∷_}
 use mathlib.Core.Option.{none, some}
 use mathlib.Core.Bool.{true, false, not}
-use lib.ListN.{getD}
 use lib.Dec.{T}
 use denote.Ref.{RefT}
 use Rattle.model.specs.Table.{isAsked}
 use Rattle.model.specs.Image.{table}
 use Rattle.model.specs.Rules.{breakOf}
-use Rattle.model.specs.Told.{Told, done, yes, more, failed, refused, numberOf, carried, carriedValues, toldRefusal, toldFailure}
+use Rattle.model.specs.Told.{Told, done, yes, more, failed, refused, toldRefusal, toldFailure}
 use Rattle.model.specs.Calls.{brokenBy, Call, makesVariable, makesPrimitive, makesList, makesLambda, makesAttrset, makesNamed, makesNeg, makesInter, makesUnion, marks, putsBound, enters, exits, setsLevel, under, bothWays, asks, works, abandons, perform}
-use Rattle.model.proofs.OneToOne.{refusalOf, refusal-found}
 use Rattle.model.specs.declared.Question.{Question}
 use Rattle.model.specs.declared.Failure.{Failure}
 use Rattle.model.specs.declared.Refusal.{Refusal}
@@ -30,7 +28,7 @@ use Rattle.demands.proofs.Demand1.{refused-leaves-all, work-leaves-all, work-ke
 use Rattle.demands.proofs.Demand2 as demand-2
 use Rattle.capi.specs.Answers.{answerOf, flagOf, dynamicOf, capacitiesOf}
 use Rattle.capi.specs.declared.Answer.{Answer}
-use Rattle.capi.proofs.OneToOne.{steps-found}
+use Rattle.capi.proofs.OneToOne.{steps-found, told-once, refusal-fits}
 use Rattle.capi.proofs.sheafwinch_start.Reads as c-start
 use Rattle.capi.proofs.sheafwinch_work.Reads as c-work
 use Rattle.capi.proofs.sheafwinch_make_variable.Reads as c-make-variable
@@ -138,16 +136,14 @@ module _ {c : Call} {v w : List ℕ} {x : Answer} (m : Answers c v x w) where
   told-known = subst (λ (t : Told). Known t) (sym (m .meets .tells)) (known c v)
 
   refused-by : (t : Told) → x ≡ answerOf (x .steps) t → Known t → Meets c v t (x .steps) w → x .kind ≡ 4
-      → (r : Refusal) × (x .number ≡ numberOf r) × Meets c v (toldRefusal r) (x .steps) w
+      → (r : Refusal) × (x ≡ answerOf (x .steps) (toldRefusal r)) × Meets c v (toldRefusal r) (x .steps) w
   refused-by (done l) e h p k = let z : _≡_ {A = ℕ} 0 4 = sym (ap (λ (y : Answer). y .kind) e) ∙ k in absurd (omega arith)
   refused-by yes e h p k = let z : _≡_ {A = ℕ} 1 4 = sym (ap (λ (y : Answer). y .kind) e) ∙ k in absurd (omega arith)
   refused-by more e h p k = let z : _≡_ {A = ℕ} 2 4 = sym (ap (λ (y : Answer). y .kind) e) ∙ k in absurd (omega arith)
   refused-by (failed n l) e h p k = let z : _≡_ {A = ℕ} 3 4 = sym (ap (λ (y : Answer). y .kind) e) ∙ k in absurd (omega arith)
-  refused-by (refused n l) e (r, d) p k =
-      let f : n ≡ numberOf r = cc in
-      (r, ap (λ (y : Answer). y .number) e ∙ f, subst (λ (t : Told). Meets c v t (x .steps) w) d p)
+  refused-by (refused n l) e (r, d) p k = (r, e ∙ ap (answerOf (x .steps)) d, subst (λ (t : Told). Meets c v t (x .steps) w) d p)
 
-  pub c-refused : x .kind ≡ 4 → (r : Refusal) × (x .number ≡ numberOf r) × Meets c v (toldRefusal r) (x .steps) w
+  pub c-refused : x .kind ≡ 4 → (r : Refusal) × (x ≡ answerOf (x .steps) (toldRefusal r)) × Meets c v (toldRefusal r) (x .steps) w
   c-refused = refused-by (m .told) (m .shows) told-known (m .meets)
 
   failed-by : (t : Told) → x ≡ answerOf (x .steps) t → Known t → Meets c v t (x .steps) w → x .kind ≡ 3 → (f : Failure) × Meets c v (toldFailure f) (x .steps) w
@@ -183,15 +179,11 @@ pub c-refused-leaves-all : {v w : List ℕ} {x : Answer} (c : Call) → isWork c
 c-refused-leaves-all c n m k = let r = c-refused m k in refused-leaves-all c n (r .0) (r .2)
 
 pub c-work-refused : {v w : List ℕ} {x : Answer} {b : ℕ} → Answers (works b) v x w → x .kind ≡ 4
-    → (r : Refusal) × (x .number ≡ numberOf r) × (forRoom r ≡ false → (w ≡ v) × (x .steps ≡ 0)) × (forRoom r ≡ true → KeepsEarlier b v (x .steps) w)
+    → (r : Refusal) × (x ≡ answerOf (x .steps) (toldRefusal r)) × (forRoom r ≡ false → (w ≡ v) × (x .steps ≡ 0)) × (forRoom r ≡ true → KeepsEarlier b v (x .steps) w)
 c-work-refused m k = let r = c-refused m k in (r .0, r .1, work-leaves-all (r .0) (r .2), work-keeps-earlier (r .0) (r .2))
 
 -- Demand 2: a held question, where none is asked, in a table started by us: refused with 8 exactly when an earlier question has failed,
 -- with the first failure; with none it is the plain question.
-eight : (r : Refusal) → numberOf r ≡ 8 → (k : ℕ) × (a : ℕ) × (b : ℕ) × (n : ℕ) × (r ≡ Broken k a b n)
-unfolding refusalOf
-eight r e = let l = carriedValues (carried r) in (getD l 0 0, getD l 1 0, getD l 2 0, getD l 3 0, sym (rw e at (refusal-found r)))
-
 module _ {v w : List ℕ} {x : Answer} (o : Ours v) (q : Question) (held : q .held ≡ true) (idle : T (not (isAsked (table v)))) (m : Answers (asks q) v x w) where
   pub c-held-carries-first : (f : Failure) → firstTold o ≡ some f → (x ≡ answerOf (x .steps) (toldRefusal (brokenBy (breakOf f)))) × (w ≡ v)
   c-held-carries-first f e =
@@ -203,11 +195,11 @@ module _ {v w : List ℕ} {x : Answer} (o : Ours v) (q : Question) (held : q .he
       let k = demand-2.held-none-failed o q held idle (m .meets) e in
       (m .shows ∙ ap (answerOf (x .steps)) (k .0), k .1)
 
-  pub c-held-refused-failed : x .kind ≡ 4 → x .number ≡ 8 → (f : Failure) × (firstTold o ≡ some f)
-  c-held-refused-failed k n =
-      let r = c-refused m k in
-      let e = eight (r .0) (sym (r .1) ∙ n) in
-      demand-2.held-refused-failed o q held idle (r .2) (e .0) (e .1) (e .2) (e .3) (ap toldRefusal (e .4))
+  pub c-held-refused-failed : (k a b n : ℕ) → x ≡ answerOf (x .steps) (toldRefusal (Broken k a b n)) → (f : Failure) × (firstTold o ≡ some f)
+  c-held-refused-failed k a b n e =
+      let r = c-refused m (ap (λ (y : Answer). y .kind) e) in
+      let d = told-once (x .steps) (x .steps) (toldRefusal (r .0)) (toldRefusal (Broken k a b n)) (refusal-fits (r .0)) (refusal-fits (Broken k a b n)) (sym (r .1) ∙ e) in
+      demand-2.held-refused-failed o q held idle (r .2) k a b n d
 
 -- Demand 3: calls of work for C one after the other, going on while the kind is 2, are a run; crate demands says what it comes to.
 pub c-ends : {bs v w : List ℕ} {x : Answer} (b : ℕ) (m : Answers (works b) v x w) → (x .kind ≡ 2 → ⊥) → Run (b ∷ bs) v (m .told) (x .steps) w
