@@ -129,7 +129,7 @@ ours-past (started names functor c ws h) = start-past names functor c ws h
 ours-past (called {ws = ws} c fits o) = call-past (firstTold o) c fits ws (ours-formed o) (ours-past o)
 
 -- any calls after it leave one
-pub ours-after : {ws : List ℕ} → Ours ws → (cs : List Call) → AllFit cs → Ours (performAll cs ws)
+unfoldable pub ours-after : {ws : List ℕ} → Ours ws → (cs : List Call) → AllFit cs → Ours (performAll cs ws)
 unfolding performAll
 ours-after o [] fits = o
 ours-after o (c ∷ cs) fits = ours-after (called c (fits .0) o) cs (fits .1)

@@ -28,7 +28,7 @@ pub record MeetsStart (names functor : ℕ) (c : Capacities) (before : List ℕ)
   pub tells : told ≡ start names functor c before .says
   pub leaves : after ≡ start names functor c before .words
 
--- the image at some later time: after any calls but start
+-- the image at some later time: after any calls but start; a label or a level, which is stored as it is, is a word
 pub data Later (v : List ℕ) : List ℕ → Type 0 where
   at-once : Later v v
   later : {u w : List ℕ} {a : Told} {n : ℕ} (c : Call) → storedArgument c < wordEnd → Meets c u a n w → Later v u → Later v w
