@@ -2,8 +2,11 @@ pub mod Reading
 pub mod ReadOut
 pub mod Laying
 pub mod Placing
+pub mod Packed
+pub mod Slots
 pub mod Places
 pub mod Lent
+pub mod Reach
 pub mod Pending
 pub mod Searching
 pub mod Starting

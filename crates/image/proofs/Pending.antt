@@ -4,15 +4,15 @@ use Prim.Native.Nat.{ℕ, _-_, _≤_, _<_}
 use native.Mathlib.Omega.{arith}
 use mathlib.Core.Path.{_≡_, refl, sym, ap, _∙_, subst}
 use mathlib.Core.List.{List, [], _∷_}
-use lib.ListN.{length, set, take, length-set}
+use lib.ListN.{length, set, take}
 use lib.Seq.{length-take-le}
 use Rattle.model.specs.Format.{stateAt, idle, asked}
 use Rattle.model.specs.Table.{Pair, Break, Store, Table, tableOf, stateOf, withBroken, withLevel}
-use Rattle.model.specs.Image.{header, words, table, word, imageLength}
-use Rattle.laws.proofs.Round.{words-length}
+use Rattle.model.specs.Parts.{image}
+use Rattle.model.specs.Image.{frontAs, partsOf, wordsAs, table, word, imageLength}
 use Rattle.image.specs.Shown.{Shows, Shown, ShowsAs, ShownAs, storeOf, pendingIn, pendingTo, brokenTo, levelTo}
-use Rattle.image.proofs.Laying.{with-state, seen-as}
-use Rattle.image.proofs.Places.{facts-as}
+use Rattle.image.proofs.Laying.{seen-as, shown-size}
+use Rattle.image.proofs.Places.{facts}
 
 pub state-asked : (l : List Pair) → 0 < length l → stateOf l ≡ asked
 unfolding stateOf
@@ -27,20 +27,19 @@ state-idle (p ∷ l) h = absurd (omega arith)
 module _ {w : List ℕ} {t : Table} (s : Shows w t) where
   -- the state word of words that show a table
   pub while-asked : 0 < length (t .pending) → ShowsAs asked w t
-  while-asked h = subst (λ (k : ℕ). ShowsAs k w t) (state-asked (t .pending) h) (with-state s)
+  while-asked h = subst (λ (k : ℕ). ShowsAs k w t) (state-asked (t .pending) h) s
 
   pub while-idle : length (t .pending) ≤ 0 → ShowsAs idle w t
-  while-idle h = subst (λ (k : ℕ). ShowsAs k w t) (state-idle (t .pending) h) (with-state s)
+  while-idle h = subst (λ (k : ℕ). ShowsAs k w t) (state-idle (t .pending) h) s
 
 module _ {state : ℕ} {w : List ℕ} {t : Table} (s : ShowsAs state w t) where
   -- it is the table's already, or is written
   pub state-right : stateOf (t .pending) ≡ state → Shows w t
-  unfolding words header
-  state-right e = record { within = s .within; is = s .is ∙ ap (λ (k : ℕ). set (words t) stateAt k) (sym e) }
+  state-right e = subst (λ (k : ℕ). ShowsAs k w t) (sym e) s
 
   pub state-put : (new : ℕ) → stateOf (t .pending) ≡ new → Shows (set w stateAt new) t
-  unfolding words header
-  state-put new e = record { within = s .within; is = ap (λ (v : List ℕ). set v stateAt new) (s .is) ∙ ap (λ (k : ℕ). set (words t) stateAt k) (sym e) }
+  unfolding wordsAs image frontAs
+  state-put new e = record { within = s .within; is = ap (λ (v : List ℕ). set v stateAt new) (s .is) ∙ ap (λ (k : ℕ). wordsAs k t) (sym e) }
 
 -- a question opened or ended: the table shown is the one that stood there
 pub stated : {state : ℕ} {v w : List ℕ} {t : Table} → ShowsAs state v t → Shows w (table v) → Shows w t
@@ -48,7 +47,7 @@ stated {w = w} a s = subst (λ (u : Table). Shows w u) (seen-as a) s
 
 module _ (w : List ℕ) (s : Shown w) where
   pub shows-broken : (b : Break) → Shows (set (set (set (set w 2 (b .kind)) 3 (b .sub)) 4 (b .sup)) 5 (b .name)) (brokenTo w b)
-  unfolding words header withBroken
+  unfolding wordsAs image frontAs partsOf withBroken
   shows-broken b =
       let h = s .within .held in
       record {
@@ -61,7 +60,7 @@ module _ (w : List ℕ) (s : Shown w) where
       }
 
   pub shows-level : (l : ℕ) → Shows (set w 6 l) (levelTo w l)
-  unfolding words header withLevel
+  unfolding wordsAs image frontAs partsOf withLevel
   shows-level l =
       let h = s .within .held in
       record {
@@ -75,14 +74,11 @@ module _ (w : List ℕ) (s : Shown w) where
 
 -- words of one length: those that show tables with the same capacities
 module _ {j k : ℕ} {v w : List ℕ} {t u : Table} (a : ShowsAs j v t) (b : ShowsAs k w u) where
-  size-as : {state : ℕ} {x : List ℕ} {y : Table} → ShowsAs state x y → length x ≡ imageLength (y .store .capacities)
-  size-as {state} {x} {y} s = ap length (s .is) ∙ length-set (words y) stateAt state ∙ words-length y (s .within .held) (s .within .pending)
-
   pub same-size-as : t .store .capacities ≡ u .store .capacities → length v ≡ length w
-  same-size-as e = size-as a ∙ ap imageLength e ∙ sym (size-as b)
+  same-size-as e = shown-size a ∙ ap imageLength e ∙ sym (shown-size b)
 
 pub same-size : {v w : List ℕ} {t u : Table} → Shows v t → Shows w u → t .store .capacities ≡ u .store .capacities → length v ≡ length w
-same-size a b e = same-size-as (with-state a) (with-state b) e
+same-size a b e = same-size-as a b e
 
 -- while pending pairs are taken off, the rest stays as it was
 pub record Emptying (w₀ w : List ℕ) : Type 0 where
@@ -104,14 +100,14 @@ module _ {w₀ w : List ℕ} (e : Emptying w₀ w) where
 
     pub emptying-less : 0 < word w 23 → word v 23 < word w 23
     emptying-less h =
-        let f = facts-as s in
-        let g = facts-as (e .shows) in
+        let f = facts s in
+        let g = facts (e .shows) in
         let n = ap length left ∙ length-take-le (length (pendingIn w) - 1) (pendingIn w) (omega arith) in
         omega arith
 
   pub emptying-end : word w 23 ≤ 0 → ShowsAs asked w (pendingTo w₀ [])
   emptying-end h =
-      let f = facts-as (e .shows) in
+      let f = facts (e .shows) in
       subst (λ (ps : List Pair). ShowsAs asked w (pendingTo w₀ ps)) (none (pendingIn w) (omega arith)) (e .shows)
     where
       none : (l : List Pair) → length l ≤ 0 → l ≡ []

@@ -1,7 +1,7 @@
 -- An image that is started: every word zeroed, and the header written over the zeroes. Assumes nothing.
 use Prim.Native.Nat.{ℕ, suc, _+_, _*_, _≤_, _<_}
 use native.Mathlib.Omega.{arith}
-use native.Mathlib.Nat.{sub-zero}
+use native.Mathlib.Nat.{sub-zero, add-zero}
 use native.Mathlib.Numerals.{add-one}
 use mathlib.Core.Path.{_≡_, refl, sym, ap, _∙_}
 use mathlib.Core.List.{List, [], _++_, append-assoc, append-nil}
@@ -10,16 +10,16 @@ use lib.ListN.{length, getD, set, drop, replicate, length-append, length-drop, l
 use lib.Seq.{drop-cons, drop-length, set-at, append-snoc}
 use lib.Dec.{T, eqb, leb}
 use Rattle.model.specs.Lists.{allOf, flat}
-use Rattle.model.specs.Format.{namesMost}
+use Rattle.model.specs.Format.{regions, newest, headerWords, idle, namesMost}
 use Rattle.model.specs.Table.{Capacities, stateOf}
-use Rattle.model.specs.Image.{region, header, words, imageLength}
-use Rattle.model.specs.Calls.{emptyTable, capacitiesRight, start, replyOf, provided}
+use Rattle.model.specs.Parts.{triples, bodies, image}
+use Rattle.model.specs.Image.{region, packed, sizeOf, inOrder, imageLength, frontAs, partsOf, wordsAs, words}
+use Rattle.model.specs.Calls.{emptyTable, allSmall, capacitiesRight, start, replyOf, provided}
 use Rattle.model.specs.Told.{done, toldRefusal}
 use Rattle.model.specs.declared.Refusal.the-variants.{BadCapacity}
-use Rattle.laws.specs.Good.{Small}
-use Rattle.laws.proofs.Tests.{of-true, nth, le-of, eq-of}
+use Rattle.laws.proofs.Tests.{of-true, nth, eq-of}
 use Rattle.laws.proofs.Regions.{blanks-are}
-use Rattle.image.specs.Stores.{smallOnes, headed}
+use Rattle.image.specs.Stores.{headedFrom, headed}
 
 -- the first i words are zeroed
 pub record Zeroed (w₀ : List ℕ) (i : ℕ) (w : List ℕ) : Type 0 where
@@ -58,39 +58,28 @@ module _ {w₀ w : List ℕ} {i : ℕ} (z : Zeroed w₀ i w) where
 
 -- an empty image's words: its header, and zeroes
 abbrev free : Capacities → ℕ
-free c = 7 * c .entries + 3 * c .fields + 3 * c .bounds + 2 * c .visited + 2 * c .pending + 2 * c .equals
+free c = sizeOf (regions newest) (inOrder c)
 
-empty-words : (names functor : ℕ) (c : Capacities) → words (emptyTable names functor c) ≡ header (emptyTable names functor c) ++ replicate (free c) 0
-unfolding words region flat emptyTable
-empty-words names functor c = simp (sub-zero, blanks-are, append-assoc, replicate-append-replicate)
+empty-words : (names functor : ℕ) (c : Capacities)
+    → words (emptyTable names functor c) ≡ (frontAs idle (emptyTable names functor c) ++ triples headerWords (partsOf (emptyTable names functor c))) ++ replicate (free c) 0
+unfolding wordsAs image frontAs triples bodies partsOf packed region flat emptyTable stateOf
+empty-words names functor c = simp (sub-zero, add-zero, blanks-are, append-assoc, replicate-append-replicate, append-nil)
 
 pub started : (names functor : ℕ) (c : Capacities) (n : ℕ) → n ≡ imageLength c → headed (replicate n 0) names functor c ≡ words (emptyTable names functor c)
-unfolding headed header emptyTable stateOf
+unfolding headed headedFrom frontAs triples partsOf packed emptyTable
 started names functor c n e =
-    let k : n ≡ 27 + free c = omega arith in
-    ap (λ (l : List ℕ). headed l names functor c) (ap (λ (i : ℕ). replicate i 0) k ∙ sym (replicate-append-replicate {A = ℕ} 27 (free c) 0))
+    ap (λ (l : List ℕ). headed l names functor c) (ap (λ (i : ℕ). replicate i 0) e ∙ sym (replicate-append-replicate {A = ℕ} 27 (free c) 0))
     ∙ sym (empty-words names functor c)
 
 -- the tests of a start, and what they say
 pub tests-are : (names functor : ℕ) (c : Capacities) (w : List ℕ)
-    → (smallOnes c && eqb (imageLength c) (length w) && leb names namesMost && leb functor names) ≡ capacitiesRight names functor c w
+    → (allSmall (regions newest) (inOrder c) && eqb (imageLength c) (length w) && leb names namesMost && leb functor names) ≡ capacitiesRight names functor c w
 unfolding capacitiesRight allOf
 tests-are names functor c w = simp (and-assoc, and-true)
 
-pub right-small : (names functor : ℕ) (c : Capacities) (w : List ℕ) → T (capacitiesRight names functor c w) → Small c
-unfolding capacitiesRight
-right-small names functor c w h = record {
-  entries = le-of _ _ (nth _ 0 h);
-  fields = le-of _ _ (nth _ 1 h);
-  bounds = le-of _ _ (nth _ 2 h);
-  visited = le-of _ _ (nth _ 3 h);
-  pending = le-of _ _ (nth _ 4 h);
-  equals = le-of _ _ (nth _ 5 h);
-}
-
 pub right-size : (names functor : ℕ) (c : Capacities) (w : List ℕ) → T (capacitiesRight names functor c w) → length w ≡ imageLength c
 unfolding capacitiesRight
-right-size names functor c w h = sym (eq-of _ _ (nth _ 6 h))
+right-size names functor c w h = sym (eq-of _ _ (nth _ 1 h))
 
 module _ (names functor : ℕ) (c : Capacities) (w : List ℕ) where
   pub start-refused : capacitiesRight names functor c w ≡ false → (toldRefusal BadCapacity ≡ start names functor c w .says) × (w ≡ start names functor c w .words)

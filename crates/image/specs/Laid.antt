@@ -5,3 +5,10 @@ use lib.ListN.{length}
 use Rattle.model.specs.Format.{countAt}
 use Rattle.model.specs.Parts.{offset, capacity, count}
 pub use Rattle.laws.specs.Laid.{RegionLaid, Laid}
+
+-- region k, of records so wide, lies behind its header words and inside the words; no other region is named
+pub record At (w : List ℕ) (k width : ℕ) : Type 0 where
+  pub head : countAt k < length w
+  pub behind : countAt k < offset w k
+  pub held : count w k ≤ capacity w k
+  pub inside : offset w k + width * capacity w k ≤ length w

@@ -1,38 +1,19 @@
 -- Words that show a table: the contracts of all that changes an image speak through this. Assumes nothing.
-use Prim.Native.Nat.{ℕ, _≤_}
+use Prim.Native.Nat.{ℕ}
 use mathlib.Core.Path.{_≡_}
 use mathlib.Core.List.{List}
-use lib.ListN.{length, set}
-use Rattle.model.specs.Format.{stateAt}
-use Rattle.model.specs.Table.{Entry, Field, Bound, Pair, Break, Store, Graph, Table, tableOf, graphOf, withLevel, withBroken, withEntries, withFields, withBounds, withVisited, withEquals}
-use Rattle.model.specs.Image.{words, table}
-use Rattle.laws.specs.Good.{Held, Small}
+use Rattle.model.specs.Table.{Entry, Field, Bound, Pair, Break, Store, Graph, Table, tableOf, stateOf, graphOf, withLevel, withBroken, withEntries, withFields, withBounds, withVisited, withEquals}
+use Rattle.model.specs.Image.{wordsAs, table}
+pub use Rattle.laws.specs.Good.{Within}
 
--- a table within its capacities, and these within their maxima
-pub record Within (t : Table) : Type 0 where
-  pub held : Held (t .store)
-  pub pending : length (t .pending) ≤ t .store .capacities .pending
-  pub small : Small (t .store .capacities)
-
--- the state word among a table's words: the table's own; or a given one, which stands while a question's pairs are put on pending (idle)
--- and in the midst of a step (asked)
-pub data StateWord : Type 0 where
-  own : StateWord
-  given : ℕ → StateWord
-
-abbrev pub wordsWith : StateWord → Table → List ℕ
-wordsWith own t = words t
-wordsWith (given state) t = set (words t) stateAt state
-
-pub record ShowsWith (x : StateWord) (w : List ℕ) (t : Table) : Type 0 where
+-- words that show a table, with a state word: it is not the table's own while a question's pairs are put on pending (idle) and in the
+-- midst of a step (asked)
+pub record ShowsAs (state : ℕ) (w : List ℕ) (t : Table) : Type 0 where
   pub within : Within t
-  pub is : w ≡ wordsWith x t
+  pub is : w ≡ wordsAs state t
 
 abbrev pub Shows : List ℕ → Table → Type 0
-Shows w t = ShowsWith own w t
-
-abbrev pub ShowsAs : ℕ → List ℕ → Table → Type 0
-ShowsAs state w t = ShowsWith (given state) w t
+Shows w t = ShowsAs (stateOf (t .pending)) w t
 
 -- the words show the table that is read off them
 abbrev pub Shown : List ℕ → Type 0

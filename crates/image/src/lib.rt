@@ -11,19 +11,19 @@ ghost use mathlib.Core.List.{[], _∷_, _++_};
 ghost use Prim.Native.Nat.{_+_, _-_, _*_, _≤_, _<_};
 ghost use lib.ListN.{length, set, take, drop, replicate};
 ghost use lib.Seq.{sets};
-ghost use Rattle.model.specs.Format.{wordEnd, formatAt, formatWord, namesAt, functorAt, idle, asked, entryWidth, fieldWidth, boundWidth, visitedWidth, pendingWidth, equalsWidth};
+ghost use Rattle.model.specs.Format.{regions, newest, wordEnd, formatAt, formatWord, namesAt, functorAt, capacityAt, countAt, idle, asked, entryWidth, fieldWidth, boundWidth, visitedWidth, pendingWidth, equalsWidth};
 ghost use Rattle.model.specs.Lists.{any, readMany};
 ghost use Rattle.model.specs.Table.{_⊑_, entryAt, isAsked};
-ghost use Rattle.model.specs.Image.{word, count, table, imageLength, visitedOf, entryWords, fieldWords, boundWords, visitedWords, pendingWords, equalWords};
+ghost use Rattle.model.specs.Image.{word, offset, capacity, count, table, inOrder, imageLength, visitedOf, entryWords, fieldWords, boundWords, visitedWords, pendingWords, equalWords};
 ghost use Rattle.model.specs.Making.{changed, withNegation, withMark};
-ghost use Rattle.model.specs.Calls.{readOut, withX, capacitiesRight, start as startOf};
+ghost use Rattle.model.specs.Calls.{readOut, withX, allSmall, capacitiesRight, start as startOf};
 ghost use Rattle.model.specs.Rules.{samePair, isVisited};
 ghost use Rattle.model.specs.Told.{toldReply};
 ghost use Rattle.laws.specs.Good.{Small};
-ghost use Rattle.image.specs.Laid.{Laid};
+ghost use Rattle.image.specs.Laid.{Laid, At};
 ghost use Rattle.image.specs.Shown.{Shows, Shown, ShowsAs, ShownAs, storeOf, entriesOf, fieldsIn, boundsAll, visitedIn, pendingIn, equalsIn};
 ghost use Rattle.image.specs.Shown.{entriesTo, fieldsTo, boundsTo, visitedTo, pendingTo, equalsTo, brokenTo, levelTo};
-ghost use Rattle.image.specs.Stores.{Room, appended, Last, removed, capacitiesOf, smallOnes, headed};
+ghost use Rattle.image.specs.Stores.{appended, removed, capacitiesOf, headed};
 ghost use Rattle.image.specs.Records.{entryMade, fieldAt, boundAt, visitedAt, pendingAt, equalAt, saysMark, saysOpen, saysDynamic, dynamicRead, attrsetRead};
 
 // How many records each region takes.
@@ -122,6 +122,22 @@ pub const VISITED: u32 = 4;
 pub const PENDING: u32 = 5;
 
 pub const EQUALS: u32 = 6;
+
+// The same, as they are counted through.
+pub const IN_ENTRIES: usize = ENTRIES as usize;
+
+pub const IN_FIELDS: usize = FIELDS as usize;
+
+pub const IN_BOUNDS: usize = BOUNDS as usize;
+
+pub const IN_VISITED: usize = VISITED as usize;
+
+pub const IN_PENDING: usize = PENDING as usize;
+
+pub const IN_EQUALS: usize = EQUALS as usize;
+
+// How many regions there are.
+pub const REGIONS: usize = 6;
 
 // Words per record.
 pub const ENTRY_WIDTH: usize = 7;
@@ -250,90 +266,104 @@ fn wide(x: u32) -> usize
     x as usize
 }
 
-// How many records each region has.
+// How many records a region has, and how many it takes.
+pub fn count(image: &[u32], region: usize) -> u32
+    requires { ⌜ countAt region < length (now image) ⌝ }
+    ensures { λ r. ⌜ r ≡ count (now (image .entry)) region ⌝ }
+{
+    image[8 + 3 * region]
+}
+
+pub fn capacity(image: &[u32], region: usize) -> u32
+    requires { ⌜ capacityAt region < length (now image) ⌝ }
+    ensures { λ r. ⌜ r ≡ capacity (now (image .entry)) region ⌝ }
+{
+    image[7 + 3 * region]
+}
+
+// The same by name.
 pub fn entries_count(image: &[u32]) -> u32
     requires { ⌜ Laid (now image) ⌝ }
     ensures { λ r. ⌜ r ≡ length (entriesOf (now (image .entry))) ⌝ }
 {
-    image[ENTRIES_COUNT_AT]
+    count(image, IN_ENTRIES)
 }
 
 pub fn fields_count(image: &[u32]) -> u32
     requires { ⌜ Laid (now image) ⌝ }
     ensures { λ r. ⌜ r ≡ length (fieldsIn (now (image .entry))) ⌝ }
 {
-    image[FIELDS_COUNT_AT]
+    count(image, IN_FIELDS)
 }
 
 pub fn bounds_count(image: &[u32]) -> u32
     requires { ⌜ Laid (now image) ⌝ }
     ensures { λ r. ⌜ r ≡ length (boundsAll (now (image .entry))) ⌝ }
 {
-    image[BOUNDS_COUNT_AT]
+    count(image, IN_BOUNDS)
 }
 
 pub fn visited_count(image: &[u32]) -> u32
     requires { ⌜ Laid (now image) ⌝ }
     ensures { λ r. ⌜ r ≡ length (visitedIn (now (image .entry))) ⌝ }
 {
-    image[VISITED_COUNT_AT]
+    count(image, IN_VISITED)
 }
 
 pub fn pending_count(image: &[u32]) -> u32
     requires { ⌜ Laid (now image) ⌝ }
     ensures { λ r. ⌜ r ≡ length (pendingIn (now (image .entry))) ⌝ }
 {
-    image[PENDING_COUNT_AT]
+    count(image, IN_PENDING)
 }
 
 pub fn equals_count(image: &[u32]) -> u32
     requires { ⌜ Laid (now image) ⌝ }
     ensures { λ r. ⌜ r ≡ length (equalsIn (now (image .entry))) ⌝ }
 {
-    image[EQUALS_COUNT_AT]
+    count(image, IN_EQUALS)
 }
 
-// How many each takes.
 pub fn entries_capacity(image: &[u32]) -> u32
     requires { ⌜ Laid (now image) ⌝ }
     ensures { λ r. ⌜ r ≡ storeOf (now (image .entry)) .capacities .entries ⌝ }
 {
-    image[ENTRIES_CAPACITY_AT]
+    capacity(image, IN_ENTRIES)
 }
 
 pub fn fields_capacity(image: &[u32]) -> u32
     requires { ⌜ Laid (now image) ⌝ }
     ensures { λ r. ⌜ r ≡ storeOf (now (image .entry)) .capacities .fields ⌝ }
 {
-    image[FIELDS_CAPACITY_AT]
+    capacity(image, IN_FIELDS)
 }
 
 pub fn bounds_capacity(image: &[u32]) -> u32
     requires { ⌜ Laid (now image) ⌝ }
     ensures { λ r. ⌜ r ≡ storeOf (now (image .entry)) .capacities .bounds ⌝ }
 {
-    image[BOUNDS_CAPACITY_AT]
+    capacity(image, IN_BOUNDS)
 }
 
 pub fn visited_capacity(image: &[u32]) -> u32
     requires { ⌜ Laid (now image) ⌝ }
     ensures { λ r. ⌜ r ≡ storeOf (now (image .entry)) .capacities .visited ⌝ }
 {
-    image[VISITED_CAPACITY_AT]
+    capacity(image, IN_VISITED)
 }
 
 pub fn pending_capacity(image: &[u32]) -> u32
     requires { ⌜ Laid (now image) ⌝ }
     ensures { λ r. ⌜ r ≡ storeOf (now (image .entry)) .capacities .pending ⌝ }
 {
-    image[PENDING_CAPACITY_AT]
+    capacity(image, IN_PENDING)
 }
 
 pub fn equals_capacity(image: &[u32]) -> u32
     requires { ⌜ Laid (now image) ⌝ }
     ensures { λ r. ⌜ r ≡ storeOf (now (image .entry)) .capacities .equals ⌝ }
 {
-    image[EQUALS_CAPACITY_AT]
+    capacity(image, IN_EQUALS)
 }
 
 // The rest of the header: how many names there are, the functor word, the current level and the break.
@@ -396,54 +426,59 @@ pub fn entry_word(image: &[u32], i: u32, j: usize) -> u32
     image[HEADER_WORDS + ENTRY_WIDTH * wide(i) + j]
 }
 
-// Word j of field record i.
+// Word j of record i of a region, whose records are so wide.
+fn record_word(image: &[u32], region: usize, width: usize, i: u32, j: usize) -> u32
+    requires { ⌜ At (now image) region width ⌝ }
+    requires { ⌜ (i < count (now image) region) × (j < width) ⌝ }
+    ensures { λ r. ⌜ r ≡ word (now (image .entry)) (offset (now (image .entry)) region + width * i + j) ⌝ }
+{
+    image[wide(image[6 + 3 * region]) + width * wide(i) + j]
+}
+
+// The same by name.
 pub fn field_word(image: &[u32], i: u32, j: usize) -> u32
     requires { ⌜ Laid (now image) ⌝ }
     requires { ⌜ i < length (fieldsIn (now image)) ⌝ }
     requires { ⌜ j < fieldWidth ⌝ }
     ensures { λ r. ⌜ r ≡ word (fieldWords (fieldAt (fieldsIn (now (image .entry))) i)) j ⌝ }
 {
-    image[wide(image[FIELDS_OFFSET_AT]) + FIELD_WIDTH * wide(i) + j]
+    record_word(image, IN_FIELDS, FIELD_WIDTH, i, j)
 }
 
-// Word j of bound record i.
 pub fn bound_word(image: &[u32], i: u32, j: usize) -> u32
     requires { ⌜ Laid (now image) ⌝ }
     requires { ⌜ i < length (boundsAll (now image)) ⌝ }
     requires { ⌜ j < boundWidth ⌝ }
     ensures { λ r. ⌜ r ≡ word (boundWords (boundAt (boundsAll (now (image .entry))) i)) j ⌝ }
 {
-    image[wide(image[BOUNDS_OFFSET_AT]) + BOUND_WIDTH * wide(i) + j]
+    record_word(image, IN_BOUNDS, BOUND_WIDTH, i, j)
 }
 
-// Word j of visited pair i.
 pub fn visited_word(image: &[u32], i: u32, j: usize) -> u32
     requires { ⌜ Laid (now image) ⌝ }
     requires { ⌜ i < length (visitedIn (now image)) ⌝ }
     requires { ⌜ j < visitedWidth ⌝ }
     ensures { λ r. ⌜ r ≡ word (visitedWords (visitedAt (visitedIn (now (image .entry))) i)) j ⌝ }
 {
-    image[wide(image[VISITED_OFFSET_AT]) + VISITED_WIDTH * wide(i) + j]
+    record_word(image, IN_VISITED, VISITED_WIDTH, i, j)
 }
 
-// Word j of pending pair i.
 pub fn pending_word(image: &[u32], i: u32, j: usize) -> u32
     requires { ⌜ Laid (now image) ⌝ }
     requires { ⌜ i < length (pendingIn (now image)) ⌝ }
     requires { ⌜ j < pendingWidth ⌝ }
     ensures { λ r. ⌜ r ≡ word (pendingWords (pendingAt (pendingIn (now (image .entry))) i)) j ⌝ }
 {
-    image[wide(image[PENDING_OFFSET_AT]) + PENDING_WIDTH * wide(i) + j]
+    record_word(image, IN_PENDING, PENDING_WIDTH, i, j)
 }
 
-// Word j of equal pair i.
 pub fn equal_word(image: &[u32], i: u32, j: usize) -> u32
     requires { ⌜ Laid (now image) ⌝ }
     requires { ⌜ i < length (equalsIn (now image)) ⌝ }
     requires { ⌜ j < equalsWidth ⌝ }
     ensures { λ r. ⌜ r ≡ word (equalWords (equalAt (equalsIn (now (image .entry))) i)) j ⌝ }
 {
-    image[wide(image[EQUALS_OFFSET_AT]) + EQUALS_WIDTH * wide(i) + j]
+    record_word(image, IN_EQUALS, EQUALS_WIDTH, i, j)
 }
 
 // Whether these flags say marked, whether they say open, and whether they say that there is a dynamic type.
@@ -514,27 +549,42 @@ pub fn entry(image: &[u32], i: u32) -> Entry
     }
 }
 
-// Writes the seven words of an entry from a word on.
-fn write_entry(
-    image: &mut [u32],
-    at: usize,
-    kind: u32,
-    x: u32,
-    y: u32,
-    z: u32,
-    flags: u32,
-    spread: u32,
-)
-    requires { ⌜ at + 7 ≤ length (now image) ⌝ }
-    ensures { λ _. ⌜ now (image .exit) ≡ sets (now (image .entry)) at (entryWords (entryMade kind x y z flags spread)) ⌝ }
+// Writes a record's words into a region that is lent from its offset on.
+fn put_row(region: &mut [u32], start: usize, row: &[u32])
+    requires { ⌜ start + length (now row) ≤ length (now region) ⌝ }
+    ensures { λ _. ⌜ now (region .exit) ≡ sets (now (region .entry)) start (now (row .entry)) ⌝ }
 {
-    image[at] = kind;
-    image[at + 1] = x;
-    image[at + 2] = y;
-    image[at + 3] = z;
-    image[at + 4] = flags;
-    image[at + 5] = spread;
-    image[at + 6] = 0;
+    let mut i = 0;
+    while i < row.len() {
+        region[start + i] = row[i];
+        i += 1;
+    }
+}
+
+// Puts a record behind the last of a region.
+fn append(image: &mut [u32], region: usize, width: usize, row: &[u32])
+    requires { ⌜ At (now image) region width ⌝ }
+    requires { ⌜ count (now image) region < capacity (now image) region ⌝ }
+    requires { ⌜ length (now row) ≡ width ⌝ }
+    ensures { λ _. ⌜ now (image .exit) ≡ appended (now (image .entry)) region width (now (row .entry)) ⌝ }
+{
+    let at = wide(image[6 + 3 * region]);
+    let n = image[8 + 3 * region];
+    put_row(&mut image[at..], width * wide(n), row);
+    image[8 + 3 * region] = n + 1;
+}
+
+// Takes the last record off a region; its words are then those of `zeros`.
+fn remove(image: &mut [u32], region: usize, width: usize, zeros: &[u32])
+    requires { ⌜ At (now image) region width ⌝ }
+    requires { ⌜ 0 < count (now image) region ⌝ }
+    requires { ⌜ now zeros ≡ replicate width 0 ⌝ }
+    ensures { λ _. ⌜ now (image .exit) ≡ removed (now (image .entry)) region width ⌝ }
+{
+    let at = wide(image[6 + 3 * region]);
+    let n = image[8 + 3 * region] - 1;
+    put_row(&mut image[at..], width * wide(n), zeros);
+    image[8 + 3 * region] = n;
 }
 
 // Puts an entry behind the last.
@@ -543,18 +593,8 @@ pub fn push_entry(image: &mut [u32], kind: u32, x: u32, y: u32, z: u32, flags: u
     requires { ⌜ length (entriesOf (now image)) < storeOf (now image) .capacities .entries ⌝ }
     ensures { λ _. ⌜ Shows (now (image .exit)) (entriesTo (now (image .entry)) (entriesOf (now (image .entry)) ++ (entryMade kind x y z flags spread ∷ []))) ⌝ }
 {
-    let count = image[ENTRIES_COUNT_AT];
-    write_entry(
-        image,
-        HEADER_WORDS + ENTRY_WIDTH * wide(count),
-        kind,
-        x,
-        y,
-        z,
-        flags,
-        spread,
-    );
-    image[ENTRIES_COUNT_AT] = count + 1;
+    let row = [kind, x, y, z, flags, spread, 0];
+    append(image, IN_ENTRIES, ENTRY_WIDTH, &row);
 }
 
 // Takes the last entry off, and its words with it.
@@ -563,18 +603,8 @@ pub fn pop_entry(image: &mut [u32])
     requires { ⌜ 0 < length (entriesOf (now image)) ⌝ }
     ensures { λ _. ⌜ Shows (now (image .exit)) (entriesTo (now (image .entry)) (take (length (entriesOf (now (image .entry))) - 1) (entriesOf (now (image .entry))))) ⌝ }
 {
-    let count = image[ENTRIES_COUNT_AT] - 1;
-    write_entry(
-        image,
-        HEADER_WORDS + ENTRY_WIDTH * wide(count),
-        0,
-        0,
-        0,
-        0,
-        0,
-        0,
-    );
-    image[ENTRIES_COUNT_AT] = count;
+    let zeros = [0, 0, 0, 0, 0, 0, 0];
+    remove(image, IN_ENTRIES, ENTRY_WIDTH, &zeros);
 }
 
 // Writes word j of entry i.
@@ -615,70 +645,14 @@ pub fn put_level(image: &mut [u32], i: u32, l: u32)
     put_entry_word(image, i, X_WORD, l);
 }
 
-// Writes a pair, or a triple, as record n of a region that is lent from its offset on.
-fn put_pair(region: &mut [u32], n: usize, a: u32, b: u32)
-    requires { ⌜ 2 * n + 2 ≤ length (now region) ⌝ }
-    ensures { λ _. ⌜ now (region .exit) ≡ sets (now (region .entry)) (2 * n) (a ∷ b ∷ []) ⌝ }
-{
-    region[2 * n] = a;
-    region[2 * n + 1] = b;
-}
-
-fn put_triple(region: &mut [u32], n: usize, a: u32, b: u32, c: u32)
-    requires { ⌜ 3 * n + 3 ≤ length (now region) ⌝ }
-    ensures { λ _. ⌜ now (region .exit) ≡ sets (now (region .entry)) (3 * n) (a ∷ b ∷ c ∷ []) ⌝ }
-{
-    region[3 * n] = a;
-    region[3 * n + 1] = b;
-    region[3 * n + 2] = c;
-}
-
-// Puts a pair, or a triple, behind the last of the region whose offset and count are at these words of the header.
-fn append_pair(image: &mut [u32], offset: usize, counter: usize, a: u32, b: u32)
-    requires { ⌜ Room (now image) offset counter 2 ⌝ }
-    ensures { λ _. ⌜ now (image .exit) ≡ appended (now (image .entry)) offset counter 2 (a ∷ b ∷ []) ⌝ }
-{
-    let at = wide(image[offset]);
-    let n = image[counter];
-    put_pair(&mut image[at..], wide(n), a, b);
-    image[counter] = n + 1;
-}
-
-fn append_triple(image: &mut [u32], offset: usize, counter: usize, a: u32, b: u32, c: u32)
-    requires { ⌜ Room (now image) offset counter 3 ⌝ }
-    ensures { λ _. ⌜ now (image .exit) ≡ appended (now (image .entry)) offset counter 3 (a ∷ b ∷ c ∷ []) ⌝ }
-{
-    let at = wide(image[offset]);
-    let n = image[counter];
-    put_triple(&mut image[at..], wide(n), a, b, c);
-    image[counter] = n + 1;
-}
-
-// Takes the last pair off such a region, and its words with it.
-fn remove_pair(image: &mut [u32], offset: usize, counter: usize)
-    requires { ⌜ Last (now image) offset counter 2 ⌝ }
-    ensures { λ _. ⌜ now (image .exit) ≡ removed (now (image .entry)) offset counter 2 ⌝ }
-{
-    let at = wide(image[offset]);
-    let n = image[counter] - 1;
-    put_pair(&mut image[at..], wide(n), 0, 0);
-    image[counter] = n;
-}
-
 // Puts a field record behind the last.
 pub fn push_field(image: &mut [u32], name: u32, entry: u32, optional: u32)
     requires { ⌜ Shown (now image) ⌝ }
     requires { ⌜ length (fieldsIn (now image)) < storeOf (now image) .capacities .fields ⌝ }
     ensures { λ _. ⌜ Shows (now (image .exit)) (fieldsTo (now (image .entry)) (fieldsIn (now (image .entry)) ++ (record { name = name; entry = entry; optional = optional } ∷ []))) ⌝ }
 {
-    append_triple(
-        image,
-        FIELDS_OFFSET_AT,
-        FIELDS_COUNT_AT,
-        name,
-        entry,
-        optional,
-    );
+    let row = [name, entry, optional];
+    append(image, IN_FIELDS, FIELD_WIDTH, &row);
 }
 
 // Puts a bound behind the last.
@@ -687,14 +661,8 @@ pub fn push_bound(image: &mut [u32], variable: u32, side: u32, bound: u32)
     requires { ⌜ length (boundsAll (now image)) < storeOf (now image) .capacities .bounds ⌝ }
     ensures { λ _. ⌜ Shows (now (image .exit)) (boundsTo (now (image .entry)) (boundsAll (now (image .entry)) ++ (record { variable = variable; side = side; bound = bound } ∷ []))) ⌝ }
 {
-    append_triple(
-        image,
-        BOUNDS_OFFSET_AT,
-        BOUNDS_COUNT_AT,
-        variable,
-        side,
-        bound,
-    );
+    let row = [variable, side, bound];
+    append(image, IN_BOUNDS, BOUND_WIDTH, &row);
 }
 
 // Records a pair as visited.
@@ -703,7 +671,8 @@ pub fn push_visited(image: &mut [u32], sub: u32, sup: u32)
     requires { ⌜ length (visitedIn (now image)) < storeOf (now image) .capacities .visited ⌝ }
     ensures { λ _. ⌜ Shows (now (image .exit)) (visitedTo (now (image .entry)) (visitedIn (now (image .entry)) ++ ((sub ⊑ sup) ∷ []))) ⌝ }
 {
-    append_pair(image, VISITED_OFFSET_AT, VISITED_COUNT_AT, sub, sup);
+    let row = [sub, sup];
+    append(image, IN_VISITED, VISITED_WIDTH, &row);
 }
 
 // Records a pair as asked equal.
@@ -712,7 +681,8 @@ pub fn push_equal(image: &mut [u32], left: u32, right: u32)
     requires { ⌜ length (equalsIn (now image)) < storeOf (now image) .capacities .equals ⌝ }
     ensures { λ _. ⌜ Shows (now (image .exit)) (equalsTo (now (image .entry)) (equalsIn (now (image .entry)) ++ ((left ⊑ right) ∷ []))) ⌝ }
 {
-    append_pair(image, EQUALS_OFFSET_AT, EQUALS_COUNT_AT, left, right);
+    let row = [left, right];
+    append(image, IN_EQUALS, EQUALS_WIDTH, &row);
 }
 
 // After start the state word is written where a question is opened and where it is ended, and nowhere else: what puts pairs on pending
@@ -724,7 +694,8 @@ pub fn put_asked(image: &mut [u32], sub: u32, sup: u32)
     requires { ⌜ length (pendingIn (now image)) < storeOf (now image) .capacities .pending ⌝ }
     ensures { λ _. ⌜ ShowsAs idle (now (image .exit)) (pendingTo (now (image .entry)) (pendingIn (now (image .entry)) ++ ((sub ⊑ sup) ∷ []))) ⌝ }
 {
-    append_pair(image, PENDING_OFFSET_AT, PENDING_COUNT_AT, sub, sup);
+    let row = [sub, sup];
+    append(image, IN_PENDING, PENDING_WIDTH, &row);
 }
 
 // Opens the question whose pairs are pending.
@@ -742,7 +713,8 @@ pub fn put_consequence(image: &mut [u32], sub: u32, sup: u32)
     requires { ⌜ length (pendingIn (now image)) < storeOf (now image) .capacities .pending ⌝ }
     ensures { λ _. ⌜ ShowsAs asked (now (image .exit)) (pendingTo (now (image .entry)) (pendingIn (now (image .entry)) ++ ((sub ⊑ sup) ∷ []))) ⌝ }
 {
-    append_pair(image, PENDING_OFFSET_AT, PENDING_COUNT_AT, sub, sup);
+    let row = [sub, sup];
+    append(image, IN_PENDING, PENDING_WIDTH, &row);
 }
 
 // Takes the last pending pair off, and its words with it.
@@ -751,7 +723,8 @@ pub fn pop_pending(image: &mut [u32])
     requires { ⌜ 0 < length (pendingIn (now image)) ⌝ }
     ensures { λ _. ⌜ ShowsAs asked (now (image .exit)) (pendingTo (now (image .entry)) (take (length (pendingIn (now (image .entry))) - 1) (pendingIn (now (image .entry))))) ⌝ }
 {
-    remove_pair(image, PENDING_OFFSET_AT, PENDING_COUNT_AT);
+    let zeros = [0, 0];
+    remove(image, IN_PENDING, PENDING_WIDTH, &zeros);
 }
 
 // Takes every pending pair off.
@@ -858,7 +831,7 @@ fn size_of(capacities: Capacities) -> usize
 
 // Whether no capacity is over its maximum.
 fn capacities_small(c: Capacities) -> bool
-    ensures { λ r. ⌜ r ≡ smallOnes (capacitiesOf c) ⌝ }
+    ensures { λ r. ⌜ r ≡ allSmall (regions newest) (inOrder (capacitiesOf c)) ⌝ }
 {
     (c.entries <= ENTRIES_MOST)
         & (c.fields <= FIELDS_MOST)
@@ -894,8 +867,9 @@ fn put_region(image: &mut [u32], k: usize, offset: u32, capacity: u32)
     requires { ⌜ 3 * k + 12 ≤ length (now image) ⌝ }
     ensures { λ _. ⌜ now (image .exit) ≡ sets (now (image .entry)) (9 + 3 * k) (offset ∷ capacity ∷ 0 ∷ []) ⌝ }
 {
+    let row = [offset, capacity, 0];
     let at = ENTRIES_OFFSET_AT;
-    put_triple(&mut image[at..], k, offset, capacity, 0);
+    put_row(&mut image[at..], 3 * k, &row);
 }
 
 // Writes the header of an empty image over zeroes.

@@ -7,15 +7,12 @@ use Rattle.image.proofs.attrset.Lts as lts
 use Rattle.image.proofs.dynamic.Reads as dynamic-reads
 use Rattle.image.proofs.says_open.Reads as says-open-reads
 
--- src/lib.rt:145:9
 says-open-requires : tie.Need-says-open-requires
 says-open-requires c κs = search needs
 
--- src/lib.rt:146:9
 dynamic-requires : tie.Need-dynamic-requires
 dynamic-requires c κs = search needs
 
--- src/lib.rt:142:1
 returns : tie.Need-returns
 returns c = rw (c .before .says-open .ensures, c .dynamic .ensures)
 

@@ -7,11 +7,9 @@ use Rattle.image.proofs.break_kind.Tie as tie
 use Rattle.image.proofs.break_kind.Reads as reads
 use Rattle.image.proofs.break_kind.Lts as lts
 
--- src/lib.rt:224:5
 shared-slice-read-result : tie.Need-shared-slice-read-result
 shared-slice-read-result c = search needs
 
--- src/lib.rt:220:1
 returns : tie.Need-returns
 unfolding table
 returns c = refl

@@ -7,11 +7,9 @@ use Rattle.image.proofs.break_sub.Tie as tie
 use Rattle.image.proofs.break_sub.Reads as reads
 use Rattle.image.proofs.break_sub.Lts as lts
 
--- src/lib.rt:231:5
 shared-slice-read-result : tie.Need-shared-slice-read-result
 shared-slice-read-result c = search needs
 
--- src/lib.rt:227:1
 returns : tie.Need-returns
 unfolding table
 returns c = refl

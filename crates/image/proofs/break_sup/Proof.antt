@@ -7,11 +7,9 @@ use Rattle.image.proofs.break_sup.Tie as tie
 use Rattle.image.proofs.break_sup.Reads as reads
 use Rattle.image.proofs.break_sup.Lts as lts
 
--- src/lib.rt:238:5
 shared-slice-read-result : tie.Need-shared-slice-read-result
 shared-slice-read-result c = search needs
 
--- src/lib.rt:234:1
 returns : tie.Need-returns
 unfolding table
 returns c = refl

@@ -10,15 +10,12 @@ use Rattle.image.proofs.capacities_right.Lts as lts
 use Rattle.image.proofs.capacities_small.Reads as capacities-small-reads
 use Rattle.image.proofs.size_of.Reads as size-of-reads
 
--- src/lib.rt:782:9
 capacities-small-requires : tie.Need-capacities-small-requires
 capacities-small-requires c κs = search needs
 
--- src/lib.rt:783:9
 size-of-requires : tie.Need-size-of-requires
 size-of-requires c κs = search needs
 
--- src/lib.rt:779:1
 returns : tie.Need-returns
 returns c =
     let s = c .before .before .before in

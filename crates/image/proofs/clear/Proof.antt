@@ -15,37 +15,29 @@ Inv-loop image₀ at₀ image at = Zeroed image₀ at image
 abbrev μ-loop : tie.MeasureT-loop
 μ-loop image₀ at₀ image at = length image₀ - at
 
--- src/lib.rt:734:5
 loop-holds : tie.Need-loop-holds Inv-loop μ-loop
 loop-holds c = zeroed-start _
 
--- src/lib.rt:735:9
 mul-image : tie.Need-mul-image Inv-loop μ-loop
 mul-image c = search needs
 
--- src/lib.rt:735:9
 slice-write-image : tie.Need-slice-write-image Inv-loop μ-loop
 slice-write-image c = search needs
 
--- src/lib.rt:736:9
 add-at : tie.Need-add-at Inv-loop μ-loop
 add-at c = search needs
 
--- src/lib.rt:734:5
 loop-less : tie.Need-loop-less Inv-loop μ-loop
 loop-less c =
     let n = zeroed-length (c .before .loop .inv) in
     omega arith
 
--- src/lib.rt:734:5
 loop-again : tie.Need-loop-again Inv-loop μ-loop
 loop-again c = zeroed-more (c .before .loop .inv) (search needs)
 
--- src/lib.rt:730:1
 same-length : tie.Need-same-length Inv-loop μ-loop
 same-length c = zeroed-length (c .before .loop .inv)
 
--- src/lib.rt:730:1
 returns : tie.Need-returns Inv-loop μ-loop
 returns c = zeroed-end (c .before .loop .inv) (search needs)
 

@@ -1,6 +1,6 @@
 -- `clear_pending`: takes every pending pair off.
 use Rattle.image.proofs.Pending.{Emptying, emptying-start, emptying-more, emptying-less, emptying-end, emptying-size}
-use Rattle.image.proofs.Places.{facts-as}
+use Rattle.image.proofs.Places.{facts}
 use Rattle.image.proofs.Laying.{shown-as}
 use lib.ListN.{getD}
 use native.Mathlib.Omega.{arith}
@@ -16,36 +16,29 @@ Inv-loop image₀ image = Emptying image₀ image
 abbrev μ-loop : tie.MeasureT-loop
 μ-loop image₀ image = getD image 23 0
 
--- src/lib.rt:604:5
 loop-holds : tie.Need-loop-holds Inv-loop μ-loop
 loop-holds c = emptying-start (c .before .pre)
 
--- src/lib.rt:604:15
 slice-read-if1 : tie.Need-slice-read-if1 Inv-loop μ-loop
 slice-read-if1 c =
-    let f = facts-as (c .before .loop .inv .shows) in
+    let f = facts (c .before .loop .inv .shows) in
     omega arith
 
--- src/lib.rt:605:9
 pop-pending-requires : tie.Need-pop-pending-requires Inv-loop μ-loop
 pop-pending-requires c κs =
     let s = shown-as (c .before .before .before .loop .inv .shows) in
-    let f = facts-as s in
+    let f = facts s in
     (s, omega (arith, c .before .if1 .taken))
 
--- src/lib.rt:604:5
 loop-less : tie.Need-loop-less Inv-loop μ-loop
 loop-less c = emptying-less (c .before .before .before .before .before .before .loop .inv) (c .before .before .pop-pending .ensures) (c .before .before .before .before .if1 .taken)
 
--- src/lib.rt:604:5
 loop-again : tie.Need-loop-again Inv-loop μ-loop
 loop-again c = emptying-more (c .before .before .before .before .before .before .loop .inv) (c .before .before .pop-pending .ensures)
 
--- src/lib.rt:600:1
 same-length : tie.Need-same-length Inv-loop μ-loop
 same-length c = emptying-size (c .before .before .loop .inv) (c .before .before .before .before .pre)
 
--- src/lib.rt:600:1
 returns : tie.Need-returns Inv-loop μ-loop
 returns c = emptying-end (c .before .before .loop .inv) (c .if1 .left)
 

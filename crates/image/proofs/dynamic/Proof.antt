@@ -9,17 +9,14 @@ use Rattle.image.proofs.dynamic.Reads as reads
 use Rattle.image.proofs.dynamic.Lts as lts
 use Rattle.image.proofs.says_dynamic.Reads as says-dynamic-reads
 
--- src/lib.rt:134:8
 says-dynamic-requires : tie.Need-says-dynamic-requires
 says-dynamic-requires c κs = search needs
 
--- src/lib.rt:131:1
 returns : tie.Need-returns
 returns c =
     let e : saysDynamic (c .before .before .args .flags) ≡ true = sym (c .before .says-dynamic .ensures) ∙ c .if1 .taken in
     rw e
 
--- src/lib.rt:131:1
 returns-2 : tie.Need-returns-2
 returns-2 c =
     let e : saysDynamic (c .before .before .args .flags) ≡ false = sym (c .before .says-dynamic .ensures) ∙ c .if1 .left in

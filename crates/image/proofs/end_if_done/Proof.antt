@@ -1,6 +1,6 @@
 -- `end_if_done`: ends the question, if nothing is pending.
 use Rattle.image.proofs.Pending.{state-asked, state-idle, state-right, state-put}
-use Rattle.image.proofs.Places.{facts-as}
+use Rattle.image.proofs.Places.{facts}
 use native.Mathlib.Omega.{arith}
 use borrow.Author.Needs.{needs}
 use Rattle.image.proofs.end_if_done.Statement.{statement}
@@ -8,34 +8,29 @@ use Rattle.image.proofs.end_if_done.Tie as tie
 use Rattle.image.proofs.end_if_done.Reads as reads
 use Rattle.image.proofs.end_if_done.Lts as lts
 
--- src/lib.rt:773:8
 slice-read-if1 : tie.Need-slice-read-if1
 slice-read-if1 c =
-    let f = facts-as (c .before .pre) in
+    let f = facts (c .before .pre) in
     omega arith
 
--- src/lib.rt:774:9
 slice-write-image : tie.Need-slice-write-image
 slice-write-image c =
-    let f = facts-as (c .before .before .pre) in
+    let f = facts (c .before .before .pre) in
     omega arith
 
--- src/lib.rt:769:1
 same-length : tie.Need-same-length
 same-length c = search needs
 
--- src/lib.rt:769:1
 returns : tie.Need-returns
 returns c =
     let s = c .before .before .pre in
-    let f = facts-as s in
+    let f = facts s in
     state-put s 0 (state-idle _ (omega (arith, c .if1 .taken)))
 
--- src/lib.rt:769:1
 returns-2 : tie.Need-returns-2
 returns-2 c =
     let s = c .before .before .pre in
-    let f = facts-as s in
+    let f = facts s in
     state-right s (state-asked _ (omega (arith, c .if1 .left)))
 
 pub end-if-done-spec : {M : Type 1} → statement M

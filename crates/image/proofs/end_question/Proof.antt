@@ -9,19 +9,15 @@ use Rattle.image.proofs.end_question.Lts as lts
 use Rattle.image.proofs.clear_pending.Reads as clear-pending-reads
 use Rattle.image.proofs.end_if_done.Reads as end-if-done-reads
 
--- src/lib.rt:783:5
 clear-pending-requires : tie.Need-clear-pending-requires
 clear-pending-requires c κs = search needs
 
--- src/lib.rt:784:5
 end-if-done-requires : tie.Need-end-if-done-requires
 end-if-done-requires c κs = shown-as (c .before .before .before .clear-pending .ensures)
 
--- src/lib.rt:779:1
 same-length : tie.Need-same-length
 same-length c = search needs
 
--- src/lib.rt:779:1
 returns : tie.Need-returns
 returns c = stated (c .before .before .before .before .before .before .clear-pending .ensures) (c .before .before .end-if-done .ensures)
 

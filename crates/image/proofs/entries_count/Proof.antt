@@ -1,19 +1,18 @@
--- `entries_count`: how many entries: the word that the header has.
-use mathlib.Core.Path.{sym}
+-- `entries_count`: how many records region entries has.
+use native.Mathlib.Omega.{arith}
+use mathlib.Core.Path.{sym, _∙_}
 use Rattle.image.proofs.Reading.{entries-count}
-use borrow.Author.Needs.{needs}
 use Rattle.image.proofs.entries_count.Statement.{statement}
 use Rattle.image.proofs.entries_count.Tie as tie
 use Rattle.image.proofs.entries_count.Reads as reads
 use Rattle.image.proofs.entries_count.Lts as lts
+use Rattle.image.proofs.count.Reads as count-reads
 
--- src/lib.rt:117:5
-shared-slice-read-result : tie.Need-shared-slice-read-result
-shared-slice-read-result c = search needs
+count-requires : tie.Need-count-requires
+count-requires c κs = let l = c .before .pre in omega arith
 
--- src/lib.rt:113:1
 returns : tie.Need-returns
-returns c = sym (entries-count _)
+returns c = c .count .ensures ∙ sym (entries-count _)
 
 pub entries-count-spec : {M : Type 1} → statement M
-entries-count-spec = tie.close (tie.spec shared-slice-read-result returns)
+entries-count-spec = tie.close (tie.spec count-requires returns)

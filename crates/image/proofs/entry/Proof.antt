@@ -8,63 +8,48 @@ use Rattle.image.proofs.entry.Lts as lts
 use Rattle.image.proofs.attrset.Reads as attrset-reads
 use Rattle.image.proofs.entry_word.Reads as entry-word-reads
 
--- src/lib.rt:161:9
 entry-word-requires : tie.Need-entry-word-requires
 entry-word-requires c κs = search needs
 
--- src/lib.rt:162:9
 entry-word-requires-2 : tie.Need-entry-word-requires-2
 entry-word-requires-2 c κs = search needs
 
--- src/lib.rt:163:9
 entry-word-requires-3 : tie.Need-entry-word-requires-3
 entry-word-requires-3 c κs = search needs
 
--- src/lib.rt:164:9
 entry-word-requires-4 : tie.Need-entry-word-requires-4
 entry-word-requires-4 c κs = search needs
 
--- src/lib.rt:165:9
 entry-word-requires-5 : tie.Need-entry-word-requires-5
 entry-word-requires-5 c κs = search needs
 
--- src/lib.rt:171:29
 attrset-requires : tie.Need-attrset-requires
 attrset-requires c κs = search needs
 
--- src/lib.rt:156:1
 returns : tie.Need-returns
 returns c = read-variable _ _ (c .before .before .before .before .before .entry-word .ensures) _ (c .before .before .before .before .entry-word2 .ensures) (c .match .keys1)
 
--- src/lib.rt:156:1
 returns-2 : tie.Need-returns-2
 returns-2 c = read-primitive _ _ (c .before .before .before .before .before .entry-word .ensures) _ (c .before .before .before .before .entry-word2 .ensures) (c .match .keys2)
 
--- src/lib.rt:156:1
 returns-3 : tie.Need-returns-3
 returns-3 c = read-list _ _ (c .before .before .before .before .before .entry-word .ensures) _ (c .before .before .before .before .entry-word2 .ensures) (c .match .keys3)
 
--- src/lib.rt:156:1
 returns-4 : tie.Need-returns-4
 returns-4 c = read-lambda _ _ (c .before .before .before .before .before .entry-word .ensures) _ _ (c .before .before .before .before .entry-word2 .ensures) (c .before .before .before .entry-word3 .ensures) (c .match .keys4)
 
--- src/lib.rt:156:1
 returns-5 : tie.Need-returns-5
 returns-5 c = read-attrset _ _ (c .before .before .before .before .before .before .entry-word .ensures) _ _ (c .before .before .before .before .before .entry-word2 .ensures) (c .before .before .before .before .entry-word3 .ensures) _ _ (c .before .before .before .entry-word4 .ensures) (c .before .before .entry-word5 .ensures) (c .before .match .keys5) _ (c .attrset .ensures)
 
--- src/lib.rt:156:1
 returns-6 : tie.Need-returns-6
 returns-6 c = read-named _ _ (c .before .before .before .before .before .entry-word .ensures) _ _ (c .before .before .before .before .entry-word2 .ensures) (c .before .before .before .entry-word3 .ensures) (c .match .keys6)
 
--- src/lib.rt:156:1
 returns-7 : tie.Need-returns-7
 returns-7 c = read-neg _ _ (c .before .before .before .before .before .entry-word .ensures) _ (c .before .before .before .before .entry-word2 .ensures) (c .match .keys7)
 
--- src/lib.rt:156:1
 returns-8 : tie.Need-returns-8
 returns-8 c = read-inter _ _ (c .before .before .before .before .before .entry-word .ensures) _ _ (c .before .before .before .before .entry-word2 .ensures) (c .before .before .before .entry-word3 .ensures) (c .match .keys8)
 
--- src/lib.rt:156:1
 returns-9 : tie.Need-returns-9
 returns-9 c =
     let r = c .match .rest in

@@ -10,33 +10,26 @@ use Rattle.image.proofs.entry_word.Reads as reads
 use Rattle.image.proofs.entry_word.Lts as lts
 use Rattle.image.proofs.wide.Reads as wide-reads
 
--- src/lib.rt:64:40
 wide-requires : tie.Need-wide-requires
 wide-requires c κs = search needs
 
--- src/lib.rt:64:26
 mul-result : tie.Need-mul-result
 mul-result c = search needs
 
--- src/lib.rt:64:11
 add-result : tie.Need-add-result
 add-result c = search needs
 
--- src/lib.rt:64:11
 add-result-2 : tie.Need-add-result-2
 add-result-2 c = search needs
 
--- src/lib.rt:64:5
 mul-result-2 : tie.Need-mul-result-2
 mul-result-2 c = search needs
 
--- src/lib.rt:64:5
 shared-slice-read-result : tie.Need-shared-slice-read-result
 shared-slice-read-result c =
     let s = c .before .before .before in
     omega (arith, entries-count (now (s .args .image)), c .before .wide .ensures)
 
--- src/lib.rt:58:1
 returns : tie.Need-returns
 returns c =
     let s = c .before .before .before in

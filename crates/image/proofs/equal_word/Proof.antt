@@ -1,65 +1,30 @@
--- `equal_word`: word j of equal pair i.
+-- `equal_word`: word j of record i of region equals.
 use native.Mathlib.Omega.{arith}
-use mathlib.Core.Path.{sym}
+use mathlib.Core.Path.{sym, _∙_}
 use denote.Ref.{now}
-use borrow.Author.Needs.{needs}
-use Rattle.image.proofs.Reading.{equals-count, equal-word}
+use Rattle.model.specs.Image.{table}
+use Rattle.laws.proofs.Regions.{equal-coded}
+use Rattle.image.proofs.Reading.{equals-count, equals-at, record-word}
 use Rattle.image.proofs.equal_word.Statement.{statement}
 use Rattle.image.proofs.equal_word.Tie as tie
 use Rattle.image.proofs.equal_word.Reads as reads
 use Rattle.image.proofs.equal_word.Lts as lts
-use Rattle.image.proofs.wide.Reads as wide-reads
+use Rattle.image.proofs.record_word.Reads as record-word-reads
 
--- src/lib.rt:114:16
-shared-slice-read-wide : tie.Need-shared-slice-read-wide
-shared-slice-read-wide c = search needs
+record-word-requires : tie.Need-record-word-requires
+record-word-requires c κs =
+    let s = c .before in
+    let w = now (s .args .image) in
+    let n = equals-count w in
+    (equals-at w (s .pre .0), (omega arith, s .pre .1 .1))
 
--- src/lib.rt:114:11
-wide-requires : tie.Need-wide-requires
-wide-requires c κs = search needs
-
--- src/lib.rt:114:55
-wide-requires-2 : tie.Need-wide-requires-2
-wide-requires-2 c κs = search needs
-
--- src/lib.rt:114:40
-mul-result : tie.Need-mul-result
-mul-result c = search needs
-
--- src/lib.rt:114:11
-add-result : tie.Need-add-result
-add-result c = search needs
-
--- src/lib.rt:114:11
-add-result-2 : tie.Need-add-result-2
-add-result-2 c = search needs
-
--- src/lib.rt:114:5
-mul-result-2 : tie.Need-mul-result-2
-mul-result-2 c = search needs
-
--- src/lib.rt:114:5
-shared-slice-read-result : tie.Need-shared-slice-read-result
-shared-slice-read-result c =
-    let s = c .before .before .before .before .before in
-    omega (arith, equals-count (now (s .args .image)), c .before .before .wide .ensures, c .before .wide2 .ensures)
-
--- src/lib.rt:108:1
 returns : tie.Need-returns
+unfolding table
 returns c =
-    let s = c .before .before .before .before .before in
-    rw (c .before .before .wide .ensures, c .before .wide2 .ensures) (sym (equal-word (now (s .args .image)) (s .pre .0) (s .args .i) (s .args .j) (s .pre .1 .0) (s .pre .1 .1)))
+    let s = c .before .before in
+    let w = now (s .args .image) in
+    let n = equals-count w in
+    c .record-word .ensures ∙ sym (record-word equal-coded (equals-at w (s .pre .0)) (s .args .i) (s .args .j) _ (omega arith) (s .pre .1 .1))
 
 pub equal-word-spec : {M : Type 1} → statement M
-equal-word-spec =
-    tie.close
-    (tie.spec
-    shared-slice-read-wide
-    wide-requires
-    wide-requires-2
-    mul-result
-    add-result
-    add-result-2
-    mul-result-2
-    shared-slice-read-result
-    returns)
+equal-word-spec = tie.close (tie.spec record-word-requires returns)

@@ -1,19 +1,18 @@
--- `equals_count`: how many equal pairs: the word that the header has.
-use mathlib.Core.Path.{sym}
+-- `equals_count`: how many records region equals has.
+use native.Mathlib.Omega.{arith}
+use mathlib.Core.Path.{sym, _∙_}
 use Rattle.image.proofs.Reading.{equals-count}
-use borrow.Author.Needs.{needs}
 use Rattle.image.proofs.equals_count.Statement.{statement}
 use Rattle.image.proofs.equals_count.Tie as tie
 use Rattle.image.proofs.equals_count.Reads as reads
 use Rattle.image.proofs.equals_count.Lts as lts
+use Rattle.image.proofs.count.Reads as count-reads
 
--- src/lib.rt:152:5
-shared-slice-read-result : tie.Need-shared-slice-read-result
-shared-slice-read-result c = search needs
+count-requires : tie.Need-count-requires
+count-requires c κs = let l = c .before .pre in omega arith
 
--- src/lib.rt:148:1
 returns : tie.Need-returns
-returns c = sym (equals-count _)
+returns c = c .count .ensures ∙ sym (equals-count _)
 
 pub equals-count-spec : {M : Type 1} → statement M
-equals-count-spec = tie.close (tie.spec shared-slice-read-result returns)
+equals-count-spec = tie.close (tie.spec count-requires returns)

@@ -1,19 +1,18 @@
--- `fields_count`: how many field records: the word that the header has.
-use mathlib.Core.Path.{sym}
+-- `fields_count`: how many records region fields has.
+use native.Mathlib.Omega.{arith}
+use mathlib.Core.Path.{sym, _∙_}
 use Rattle.image.proofs.Reading.{fields-count}
-use borrow.Author.Needs.{needs}
 use Rattle.image.proofs.fields_count.Statement.{statement}
 use Rattle.image.proofs.fields_count.Tie as tie
 use Rattle.image.proofs.fields_count.Reads as reads
 use Rattle.image.proofs.fields_count.Lts as lts
+use Rattle.image.proofs.count.Reads as count-reads
 
--- src/lib.rt:124:5
-shared-slice-read-result : tie.Need-shared-slice-read-result
-shared-slice-read-result c = search needs
+count-requires : tie.Need-count-requires
+count-requires c κs = let l = c .before .pre in omega arith
 
--- src/lib.rt:120:1
 returns : tie.Need-returns
-returns c = sym (fields-count _)
+returns c = c .count .ensures ∙ sym (fields-count _)
 
 pub fields-count-spec : {M : Type 1} → statement M
-fields-count-spec = tie.close (tie.spec shared-slice-read-result returns)
+fields-count-spec = tie.close (tie.spec count-requires returns)

@@ -7,11 +7,9 @@ use Rattle.image.proofs.functor.Tie as tie
 use Rattle.image.proofs.functor.Reads as reads
 use Rattle.image.proofs.functor.Lts as lts
 
--- src/lib.rt:210:5
 shared-slice-read-result : tie.Need-shared-slice-read-result
 shared-slice-read-result c = search needs
 
--- src/lib.rt:206:1
 returns : tie.Need-returns
 unfolding table
 returns c = refl

@@ -23,48 +23,37 @@ Inv-loop region n a b key i₀ i = (i ≤ n) × (any (samePair (a ⊑ b)) (readM
 abbrev μ-loop : tie.MeasureT-loop
 μ-loop region n a b key i₀ i = n - i
 
--- src/lib.rt:682:9
 join-requires : tie.Need-join-requires Inv-loop μ-loop
 join-requires c κs = search needs
 
--- src/lib.rt:684:5
 loop-holds : tie.Need-loop-holds Inv-loop μ-loop
 unfolding any readMany
 loop-holds c = (search needs, refl)
 
--- src/lib.rt:685:24
 mul-join : tie.Need-mul-join Inv-loop μ-loop
 mul-join c = search needs
 
--- src/lib.rt:685:17
 mul-join-2 : tie.Need-mul-join-2 Inv-loop μ-loop
 mul-join-2 c = search needs
 
--- src/lib.rt:685:17
 shared-slice-read-join : tie.Need-shared-slice-read-join Inv-loop μ-loop
 shared-slice-read-join c = search needs
 
--- src/lib.rt:685:39
 mul-join-3 : tie.Need-mul-join-3 Inv-loop μ-loop
 mul-join-3 c = search needs
 
--- src/lib.rt:685:39
 add-join : tie.Need-add-join Inv-loop μ-loop
 add-join c = search needs
 
--- src/lib.rt:685:32
 mul-join-4 : tie.Need-mul-join-4 Inv-loop μ-loop
 mul-join-4 c = search needs
 
--- src/lib.rt:685:32
 shared-slice-read-join-2 : tie.Need-shared-slice-read-join-2 Inv-loop μ-loop
 shared-slice-read-join-2 c = search needs
 
--- src/lib.rt:685:12
 join-requires-2 : tie.Need-join-requires-2 Inv-loop μ-loop
 join-requires-2 c κs = search needs
 
--- src/lib.rt:686:13
 returns : tie.Need-returns Inv-loop μ-loop
 returns c =
     let a = c .before .before .before .before .before .before .before .before .args in
@@ -74,15 +63,12 @@ returns c =
     let e = is-same l i (a .a) (a .b) (omega (arith, x)) (omega arith) _ _ (c .before .join2 .ensures) (c .before .before .before .before .before .before .join .ensures) (c .if1 .taken) in
     sym (hit visitedOf 2 (samePair (a .a ⊑ a .b)) l i (a .n) (search needs) e)
 
--- src/lib.rt:688:9
 add-i : tie.Need-add-i Inv-loop μ-loop
 add-i c = search needs
 
--- src/lib.rt:684:5
 loop-less : tie.Need-loop-less Inv-loop μ-loop
 loop-less c = search needs
 
--- src/lib.rt:684:5
 loop-again : tie.Need-loop-again Inv-loop μ-loop
 loop-again c =
     let a = c .before .before .before .before .before .before .before .before .args in
@@ -92,7 +78,6 @@ loop-again c =
     let e = is-other l i (a .a) (a .b) (omega (arith, x)) (omega arith) _ _ (c .before .join2 .ensures) (c .before .before .before .before .before .before .join .ensures) (c .if1 .left) in
     (search needs, miss visitedOf 2 (samePair (a .a ⊑ a .b)) l i (c .before .before .before .before .before .loop .inv .1) e)
 
--- src/lib.rt:678:1
 returns-2 : tie.Need-returns-2 Inv-loop μ-loop
 returns-2 c =
     let e : c .before .loop .i ≡ c .before .before .before .before .args .n = omega arith in

@@ -1,6 +1,7 @@
 -- `is_asked`: whether a question is asked.
 use Rattle.image.proofs.Places.{facts}
-use Rattle.model.specs.Image.{word, words, header}
+use Rattle.model.specs.Parts.{word, image}
+use Rattle.model.specs.Image.{frontAs, wordsAs}
 use Rattle.model.specs.Table.{isAsked}
 use lib.Dec.{eqb}
 use Prim.Native.Nat.{ℕ}
@@ -13,15 +14,13 @@ use Rattle.image.proofs.is_asked.Tie as tie
 use Rattle.image.proofs.is_asked.Reads as reads
 use Rattle.image.proofs.is_asked.Lts as lts
 
--- src/lib.rt:633:5
 shared-slice-read-result : tie.Need-shared-slice-read-result
 shared-slice-read-result c =
     let f = facts (c .before .pre) in
     omega arith
 
--- src/lib.rt:629:1
 returns : tie.Need-returns
-unfolding isAsked words header
+unfolding isAsked wordsAs image frontAs
 returns c =
     let s = c .before in
     ap (λ (l : List ℕ). not (eqb (word l 1) 0)) (s .pre .is)

@@ -7,11 +7,9 @@ use Rattle.image.proofs.level.Tie as tie
 use Rattle.image.proofs.level.Reads as reads
 use Rattle.image.proofs.level.Lts as lts
 
--- src/lib.rt:217:5
 shared-slice-read-result : tie.Need-shared-slice-read-result
 shared-slice-read-result c = search needs
 
--- src/lib.rt:213:1
 returns : tie.Need-returns
 unfolding table
 returns c = refl

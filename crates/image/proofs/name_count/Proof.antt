@@ -7,11 +7,9 @@ use Rattle.image.proofs.name_count.Tie as tie
 use Rattle.image.proofs.name_count.Reads as reads
 use Rattle.image.proofs.name_count.Lts as lts
 
--- src/lib.rt:203:5
 shared-slice-read-result : tie.Need-shared-slice-read-result
 shared-slice-read-result c = search needs
 
--- src/lib.rt:199:1
 returns : tie.Need-returns
 unfolding table
 returns c = refl

@@ -1,6 +1,6 @@
 -- `open_question`: opens the question whose pairs are pending.
 use Rattle.image.proofs.Pending.{state-asked, state-put}
-use Rattle.image.proofs.Places.{facts-as}
+use Rattle.image.proofs.Places.{facts}
 use native.Mathlib.Omega.{arith}
 use borrow.Author.Needs.{needs}
 use Rattle.image.proofs.open_question.Statement.{statement}
@@ -8,17 +8,14 @@ use Rattle.image.proofs.open_question.Tie as tie
 use Rattle.image.proofs.open_question.Reads as reads
 use Rattle.image.proofs.open_question.Lts as lts
 
--- src/lib.rt:737:5
 slice-write-image : tie.Need-slice-write-image
 slice-write-image c =
-    let f = facts-as (c .pre .0) in
+    let f = facts (c .pre .0) in
     omega arith
 
--- src/lib.rt:732:1
 same-length : tie.Need-same-length
 same-length c = search needs
 
--- src/lib.rt:732:1
 returns : tie.Need-returns
 returns c = state-put (c .pre .0) 1 (state-asked _ (c .pre .1))
 

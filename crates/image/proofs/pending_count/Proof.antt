@@ -1,19 +1,18 @@
--- `pending_count`: how many pending pairs: the word that the header has.
-use mathlib.Core.Path.{sym}
+-- `pending_count`: how many records region pending has.
+use native.Mathlib.Omega.{arith}
+use mathlib.Core.Path.{sym, _∙_}
 use Rattle.image.proofs.Reading.{pending-count}
-use borrow.Author.Needs.{needs}
 use Rattle.image.proofs.pending_count.Statement.{statement}
 use Rattle.image.proofs.pending_count.Tie as tie
 use Rattle.image.proofs.pending_count.Reads as reads
 use Rattle.image.proofs.pending_count.Lts as lts
+use Rattle.image.proofs.count.Reads as count-reads
 
--- src/lib.rt:145:5
-shared-slice-read-result : tie.Need-shared-slice-read-result
-shared-slice-read-result c = search needs
+count-requires : tie.Need-count-requires
+count-requires c κs = let l = c .before .pre in omega arith
 
--- src/lib.rt:141:1
 returns : tie.Need-returns
-returns c = sym (pending-count _)
+returns c = c .count .ensures ∙ sym (pending-count _)
 
 pub pending-count-spec : {M : Type 1} → statement M
-pending-count-spec = tie.close (tie.spec shared-slice-read-result returns)
+pending-count-spec = tie.close (tie.spec count-requires returns)

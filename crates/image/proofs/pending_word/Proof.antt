@@ -1,65 +1,30 @@
--- `pending_word`: word j of pending pair i.
+-- `pending_word`: word j of record i of region pending.
 use native.Mathlib.Omega.{arith}
-use mathlib.Core.Path.{sym}
+use mathlib.Core.Path.{sym, _∙_}
 use denote.Ref.{now}
-use borrow.Author.Needs.{needs}
-use Rattle.image.proofs.Reading.{pending-count, pending-word}
+use Rattle.model.specs.Image.{table}
+use Rattle.laws.proofs.Regions.{pending-coded}
+use Rattle.image.proofs.Reading.{pending-count, pending-at, record-word}
 use Rattle.image.proofs.pending_word.Statement.{statement}
 use Rattle.image.proofs.pending_word.Tie as tie
 use Rattle.image.proofs.pending_word.Reads as reads
 use Rattle.image.proofs.pending_word.Lts as lts
-use Rattle.image.proofs.wide.Reads as wide-reads
+use Rattle.image.proofs.record_word.Reads as record-word-reads
 
--- src/lib.rt:104:16
-shared-slice-read-wide : tie.Need-shared-slice-read-wide
-shared-slice-read-wide c = search needs
+record-word-requires : tie.Need-record-word-requires
+record-word-requires c κs =
+    let s = c .before in
+    let w = now (s .args .image) in
+    let n = pending-count w in
+    (pending-at w (s .pre .0), (omega arith, s .pre .1 .1))
 
--- src/lib.rt:104:11
-wide-requires : tie.Need-wide-requires
-wide-requires c κs = search needs
-
--- src/lib.rt:104:57
-wide-requires-2 : tie.Need-wide-requires-2
-wide-requires-2 c κs = search needs
-
--- src/lib.rt:104:41
-mul-result : tie.Need-mul-result
-mul-result c = search needs
-
--- src/lib.rt:104:11
-add-result : tie.Need-add-result
-add-result c = search needs
-
--- src/lib.rt:104:11
-add-result-2 : tie.Need-add-result-2
-add-result-2 c = search needs
-
--- src/lib.rt:104:5
-mul-result-2 : tie.Need-mul-result-2
-mul-result-2 c = search needs
-
--- src/lib.rt:104:5
-shared-slice-read-result : tie.Need-shared-slice-read-result
-shared-slice-read-result c =
-    let s = c .before .before .before .before .before in
-    omega (arith, pending-count (now (s .args .image)), c .before .before .wide .ensures, c .before .wide2 .ensures)
-
--- src/lib.rt:98:1
 returns : tie.Need-returns
+unfolding table
 returns c =
-    let s = c .before .before .before .before .before in
-    rw (c .before .before .wide .ensures, c .before .wide2 .ensures) (sym (pending-word (now (s .args .image)) (s .pre .0) (s .args .i) (s .args .j) (s .pre .1 .0) (s .pre .1 .1)))
+    let s = c .before .before in
+    let w = now (s .args .image) in
+    let n = pending-count w in
+    c .record-word .ensures ∙ sym (record-word pending-coded (pending-at w (s .pre .0)) (s .args .i) (s .args .j) _ (omega arith) (s .pre .1 .1))
 
 pub pending-word-spec : {M : Type 1} → statement M
-pending-word-spec =
-    tie.close
-    (tie.spec
-    shared-slice-read-wide
-    wide-requires
-    wide-requires-2
-    mul-result
-    add-result
-    add-result-2
-    mul-result-2
-    shared-slice-read-result
-    returns)
+pending-word-spec = tie.close (tie.spec record-word-requires returns)

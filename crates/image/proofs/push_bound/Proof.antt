@@ -1,31 +1,35 @@
 -- `push_bound`: puts a bound behind the last.
-use Rattle.image.proofs.Places.{facts, become, shows-pushed, bounds-part}
-use Rattle.laws.proofs.Regions.{bound-coded}
 use native.Mathlib.Omega.{arith}
+use mathlib.Core.Path.{refl}
+use Rattle.laws.proofs.Regions.{bound-coded}
+use Rattle.image.proofs.Slots.{bounds-slot, slot-at, slot-count, slot-room, slot-pushed}
+use Rattle.image.proofs.Places.{become}
 use borrow.Author.Needs.{needs}
 use Rattle.image.proofs.push_bound.Statement.{statement}
 use Rattle.image.proofs.push_bound.Tie as tie
 use Rattle.image.proofs.push_bound.Reads as reads
 use Rattle.image.proofs.push_bound.Lts as lts
-use Rattle.image.proofs.append_triple.Reads as append-triple-reads
+use Rattle.image.proofs.append.Reads as append-reads
 
--- src/lib.rt:541:5
-append-triple-requires : tie.Need-append-triple-requires
-append-triple-requires c κs =
-    let f = facts (c .before .before .pre .0) in
-    let p = c .before .before .pre .1 in
-    record { offset = omega arith; count = omega arith; inside = omega arith; counts = omega arith }
+slice-aggregate-append : tie.Need-slice-aggregate-append
+slice-aggregate-append c = search needs
 
--- src/lib.rt:536:1
+append-requires : tie.Need-append-requires
+append-requires c κs =
+    let s = c .before .before .before in
+    let h = s .pre .0 in
+    let n = slot-count bound-coded bounds-slot h in
+    let m = slot-room bound-coded bounds-slot h in
+    (slot-at bound-coded bounds-slot h, (omega (arith, s .pre .1), refl))
+
 same-length : tie.Need-same-length
 same-length c = search needs
 
--- src/lib.rt:536:1
 returns : tie.Need-returns
 returns c =
-    let s = c .before .before .before .before .before in
+    let s = c .before .before .before .before .before .before in
     let a = s .args in
-    become (c .before .before .append-triple .ensures) (shows-pushed bound-coded (bounds-part _ (s .pre .0)) (record { variable = a .variable; side = a .side; bound = a .bound }) (s .pre .1))
+    become (c .before .before .append .ensures) (slot-pushed bound-coded bounds-slot (s .pre .0) (record { variable = a .variable; side = a .side; bound = a .bound }) (s .pre .1))
 
 pub push-bound-spec : {M : Type 1} → statement M
-push-bound-spec = tie.close (tie.spec append-triple-requires same-length returns)
+push-bound-spec = tie.close (tie.spec slice-aggregate-append append-requires same-length returns)

@@ -9,35 +9,29 @@ use Rattle.image.proofs.put_break.Tie as tie
 use Rattle.image.proofs.put_break.Reads as reads
 use Rattle.image.proofs.put_break.Lts as lts
 
--- src/lib.rt:614:5
 slice-write-image : tie.Need-slice-write-image
 slice-write-image c =
     let f = facts (c .pre) in
     omega arith
 
--- src/lib.rt:615:5
 slice-write-image-2 : tie.Need-slice-write-image-2
 slice-write-image-2 c =
     let f = facts (c .pre) in
     simp length-set (omega arith)
 
--- src/lib.rt:616:5
 slice-write-image-3 : tie.Need-slice-write-image-3
 slice-write-image-3 c =
     let f = facts (c .pre) in
     simp length-set (omega arith)
 
--- src/lib.rt:617:5
 slice-write-image-4 : tie.Need-slice-write-image-4
 slice-write-image-4 c =
     let f = facts (c .pre) in
     simp length-set (omega arith)
 
--- src/lib.rt:610:1
 same-length : tie.Need-same-length
 same-length c = search needs
 
--- src/lib.rt:610:1
 returns : tie.Need-returns
 returns c =
     let a = c .args in

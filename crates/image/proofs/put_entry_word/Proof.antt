@@ -9,37 +9,29 @@ use Rattle.image.proofs.put_entry_word.Reads as reads
 use Rattle.image.proofs.put_entry_word.Lts as lts
 use Rattle.image.proofs.wide.Reads as wide-reads
 
--- src/lib.rt:486:40
 wide-requires : tie.Need-wide-requires
 wide-requires c κs = search needs
 
--- src/lib.rt:486:26
 mul-image : tie.Need-mul-image
 mul-image c = search needs
 
--- src/lib.rt:486:11
 add-image : tie.Need-add-image
 add-image c = search needs
 
--- src/lib.rt:486:11
 add-image-2 : tie.Need-add-image-2
 add-image-2 c = search needs
 
--- src/lib.rt:486:5
 mul-image-2 : tie.Need-mul-image-2
 mul-image-2 c = search needs
 
--- src/lib.rt:486:5
 slice-write-image : tie.Need-slice-write-image
 slice-write-image c =
     let p = c .before .before .pre in
     omega (arith, entries-count (now (c .before .before .args .image)), c .wide .ensures)
 
--- src/lib.rt:480:1
 same-length : tie.Need-same-length
 same-length c = search needs
 
--- src/lib.rt:480:1
 returns : tie.Need-returns
 returns c = rw (c .wide .ensures)
 

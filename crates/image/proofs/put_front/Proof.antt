@@ -7,23 +7,18 @@ use Rattle.image.proofs.put_front.Tie as tie
 use Rattle.image.proofs.put_front.Reads as reads
 use Rattle.image.proofs.put_front.Lts as lts
 
--- src/lib.rt:744:5
 slice-write-image : tie.Need-slice-write-image
 slice-write-image c = search needs
 
--- src/lib.rt:745:5
 slice-write-image-2 : tie.Need-slice-write-image-2
 slice-write-image-2 c = simp length-set (omega arith)
 
--- src/lib.rt:746:5
 slice-write-image-3 : tie.Need-slice-write-image-3
 slice-write-image-3 c = simp length-set (omega arith)
 
--- src/lib.rt:740:1
 same-length : tie.Need-same-length
 same-length c = search needs
 
--- src/lib.rt:740:1
 returns : tie.Need-returns
 returns c = search needs
 

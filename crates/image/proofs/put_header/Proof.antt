@@ -1,5 +1,5 @@
 -- `put_header`: writes the header of an empty image over zeroes.
-use Rattle.image.specs.Stores.{headed}
+use Rattle.image.specs.Stores.{headedFrom, headed}
 use native.Mathlib.Omega.{arith}
 use borrow.Author.Needs.{needs}
 use Rattle.image.proofs.put_header.Statement.{statement}
@@ -9,91 +9,69 @@ use Rattle.image.proofs.put_header.Lts as lts
 use Rattle.image.proofs.put_front.Reads as put-front-reads
 use Rattle.image.proofs.put_region.Reads as put-region-reads
 
--- src/lib.rt:765:19
 cast-entries : tie.Need-cast-entries
 cast-entries c = search needs
 
--- src/lib.rt:766:28
 cast-fields : tie.Need-cast-fields
 cast-fields c = search needs
 
--- src/lib.rt:766:28
 mul-fields : tie.Need-mul-fields
 mul-fields c = search needs
 
--- src/lib.rt:766:18
 add-fields : tie.Need-add-fields
 add-fields c = search needs
 
--- src/lib.rt:767:27
 cast-bounds : tie.Need-cast-bounds
 cast-bounds c = search needs
 
--- src/lib.rt:767:27
 mul-bounds : tie.Need-mul-bounds
 mul-bounds c = search needs
 
--- src/lib.rt:767:18
 add-bounds : tie.Need-add-bounds
 add-bounds c = search needs
 
--- src/lib.rt:768:28
 cast-visited : tie.Need-cast-visited
 cast-visited c = search needs
 
--- src/lib.rt:768:28
 mul-visited : tie.Need-mul-visited
 mul-visited c = search needs
 
--- src/lib.rt:768:19
 add-visited : tie.Need-add-visited
 add-visited c = search needs
 
--- src/lib.rt:769:29
 cast-pending : tie.Need-cast-pending
 cast-pending c = search needs
 
--- src/lib.rt:769:29
 mul-pending : tie.Need-mul-pending
 mul-pending c = search needs
 
--- src/lib.rt:769:19
 add-pending : tie.Need-add-pending
 add-pending c = search needs
 
--- src/lib.rt:770:28
 cast-equals : tie.Need-cast-equals
 cast-equals c = search needs
 
--- src/lib.rt:770:28
 mul-equals : tie.Need-mul-equals
 mul-equals c = search needs
 
--- src/lib.rt:770:18
 add-equals : tie.Need-add-equals
 add-equals c = search needs
 
--- src/lib.rt:771:5
 put-front-requires : tie.Need-put-front-requires
 put-front-requires c κs = search needs
 
--- src/lib.rt:772:5
 put-region-requires : tie.Need-put-region-requires
 put-region-requires c κs = search needs
 
--- src/lib.rt:773:5
 put-region-requires-2 : tie.Need-put-region-requires-2
 put-region-requires-2 c κs = search needs
 
--- src/lib.rt:774:5
 put-region-requires-3 : tie.Need-put-region-requires-3
 put-region-requires-3 c κs = search needs
 
--- src/lib.rt:775:5
 put-region-requires-4 : tie.Need-put-region-requires-4
 put-region-requires-4 c κs = search needs
 
--- src/lib.rt:776:5
 put-region-requires-5 : tie.Need-put-region-requires-5
 put-region-requires-5 c κs =
     let i5 = c .before .before in
@@ -103,7 +81,6 @@ put-region-requires-5 c κs =
     let i1 = i2 .before .before .before .before in
     omega (arith, i5 .image5 .given, i4 .image4 .given, i3 .image3 .given, i2 .image2 .given, i1 .image .given, i1 .before .before .before .before .before .before .before .before .before .pre .0)
 
--- src/lib.rt:777:5
 put-region-requires-6 : tie.Need-put-region-requires-6
 put-region-requires-6 c κs =
     let i6 = c .before .before in
@@ -114,13 +91,11 @@ put-region-requires-6 c κs =
     let i1 = i2 .before .before .before .before in
     omega (arith, i6 .image6 .given, i5 .image5 .given, i4 .image4 .given, i3 .image3 .given, i2 .image2 .given, i1 .image .given, i1 .before .before .before .before .before .before .before .before .before .pre .0)
 
--- src/lib.rt:760:1
 same-length : tie.Need-same-length
 same-length c = search needs
 
--- src/lib.rt:760:1
 returns : tie.Need-returns
-unfolding headed
+unfolding headed headedFrom
 returns c =
     let r6 = c .before .before in
     let r5 = r6 .before .before .before .before in

@@ -17,31 +17,25 @@ use Rattle.image.proofs.put_mark.Lts as lts
 use Rattle.image.proofs.entry_word.Reads as entry-word-reads
 use Rattle.image.proofs.put_entry_word.Reads as put-entry-word-reads
 
--- src/lib.rt:504:9
 entry-word-requires : tie.Need-entry-word-requires
 entry-word-requires c κs =
     let p = c .before .before .pre in
     (shown-laid (p .0), (p .1, omega arith))
 
--- src/lib.rt:505:42
 sub-put-entry-word : tie.Need-sub-put-entry-word
 sub-put-entry-word c = search needs
 
--- src/lib.rt:505:42
 add-put-entry-word : tie.Need-add-put-entry-word
 add-put-entry-word c = search needs
 
--- src/lib.rt:505:5
 put-entry-word-requires : tie.Need-put-entry-word-requires
 put-entry-word-requires c κs =
     let p = c .before .before .before .before .pre in
     (shown-laid (p .0), (p .1, omega arith))
 
--- src/lib.rt:499:1
 same-length : tie.Need-same-length
 same-length c = search needs
 
--- src/lib.rt:499:1
 returns : tie.Need-returns
 returns c =
     let s = c .before .before .before .before .before .before .before in

@@ -11,17 +11,14 @@ use Rattle.image.proofs.put_negation.Reads as reads
 use Rattle.image.proofs.put_negation.Lts as lts
 use Rattle.image.proofs.put_entry_word.Reads as put-entry-word-reads
 
--- src/lib.rt:495:5
 put-entry-word-requires : tie.Need-put-entry-word-requires
 put-entry-word-requires c κs =
     let p = c .before .before .pre in
     (shown-laid (p .0), (p .1, omega arith))
 
--- src/lib.rt:490:1
 same-length : tie.Need-same-length
 same-length c = search needs
 
--- src/lib.rt:490:1
 returns : tie.Need-returns
 returns c =
     let s = c .before .before .before .before .before in

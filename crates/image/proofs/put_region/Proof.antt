@@ -8,46 +8,47 @@ use Rattle.image.proofs.put_region.Statement.{statement}
 use Rattle.image.proofs.put_region.Tie as tie
 use Rattle.image.proofs.put_region.Reads as reads
 use Rattle.image.proofs.put_region.Lts as lts
-use Rattle.image.proofs.put_triple.Reads as put-triple-reads
+use Rattle.image.proofs.put_row.Reads as put-row-reads
 
--- src/lib.rt:745:16
-mul-put-triple : tie.Need-mul-put-triple
-mul-put-triple c = search needs
+mul-put-row : tie.Need-mul-put-row
+mul-put-row c = search needs
 
--- src/lib.rt:745:16
-sub-put-triple : tie.Need-sub-put-triple
-sub-put-triple c = search needs
+sub-put-row : tie.Need-sub-put-row
+sub-put-row c = search needs
 
--- src/lib.rt:745:16
-part-put-triple-start : tie.Need-part-put-triple-start
-part-put-triple-start c = search needs
+part-put-row-start : tie.Need-part-put-row-start
+part-put-row-start c = search needs
 
--- src/lib.rt:745:16
-part-put-triple-end : tie.Need-part-put-triple-end
-part-put-triple-end c = search needs
+part-put-row-end : tie.Need-part-put-row-end
+part-put-row-end c = search needs
 
--- src/lib.rt:745:5
-put-triple-requires : tie.Need-put-triple-requires
-put-triple-requires c κs = search needs
+mul-put-row-2 : tie.Need-mul-put-row-2
+mul-put-row-2 c = search needs
 
--- src/lib.rt:740:1
+slice-aggregate-put-row : tie.Need-slice-aggregate-put-row
+slice-aggregate-put-row c = search needs
+
+put-row-requires : tie.Need-put-row-requires
+put-row-requires c κs = search needs
+
 same-length : tie.Need-same-length
 same-length c = search needs
 
--- src/lib.rt:740:1
 returns : tie.Need-returns
 returns c =
-    let a = c .before .before .before .before .before .args in
-    back-sets (now (a .image)) _ 9 (3 * a .k) (a .offset ∷ a .capacity ∷ 0 ∷ []) (c .before .before .put-triple .ensures)
+    let a = c .before .before .before .before .before .before .args in
+    back-sets (now (a .image)) _ 9 (3 * a .k) (a .offset ∷ a .capacity ∷ 0 ∷ []) (c .before .before .put-row .ensures)
 
 pub put-region-spec : {M : Type 1} → statement M
 put-region-spec =
     tie.close
     (tie.spec
-    mul-put-triple
-    sub-put-triple
-    part-put-triple-start
-    part-put-triple-end
-    put-triple-requires
+    mul-put-row
+    sub-put-row
+    part-put-row-start
+    part-put-row-end
+    mul-put-row-2
+    slice-aggregate-put-row
+    put-row-requires
     same-length
     returns)

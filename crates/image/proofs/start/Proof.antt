@@ -1,5 +1,6 @@
 -- `start`: starts an image, or refuses and leaves every word as found.
-use Rattle.image.proofs.Starting.{right-size, right-small, start-refused, start-done}
+use Rattle.image.proofs.Starting.{right-size, start-refused, start-done}
+use Rattle.laws.proofs.Calls.{right-small}
 use Rattle.image.specs.Stores.{capacitiesOf}
 use Rattle.laws.proofs.Tests.{of-true}
 use Rattle.model.specs.Image.{imageLength}
@@ -17,25 +18,20 @@ use Rattle.image.proofs.capacities_right.Reads as capacities-right-read
 use Rattle.image.proofs.clear.Reads as clear-reads
 use Rattle.image.proofs.put_header.Reads as put-header-reads
 
--- src/lib.rt:792:9
 capacities-right-requires : tie.Need-capacities-right-requires
 capacities-right-requires c κs = search needs
 
--- src/lib.rt:793:9
 same-length : tie.Need-same-length
 same-length c = search needs
 
--- src/lib.rt:793:9
 returns : tie.Need-returns
 returns c =
     let a = c .before .before .before .before .args in
     start-refused (a .names) (a .functor) (capacitiesOf (a .capacities)) (now (a .image)) (sym (c .before .capacities-right .ensures) ∙ not-true _ (c .if1 .taken))
 
--- src/lib.rt:795:5
 clear-requires : tie.Need-clear-requires
 clear-requires c κs = search needs
 
--- src/lib.rt:796:5
 put-header-requires : tie.Need-put-header-requires
 put-header-requires c κs =
     let a = c .before .before .before .before .before .before .before .before .before .args in
@@ -45,11 +41,9 @@ put-header-requires c κs =
     let n : length w ≡ imageLength k = right-size (a .names) (a .functor) k w h in
     (omega (arith, c .before .before .image .given), right-small (a .names) (a .functor) k w h)
 
--- src/lib.rt:788:1
 same-length-2 : tie.Need-same-length-2
 same-length-2 c = search needs
 
--- src/lib.rt:788:1
 returns-2 : tie.Need-returns-2
 returns-2 c =
     let a = c .before .before .before .before .before .before .before .before .before .before .before .before .args in

@@ -1,20 +1,18 @@
--- `visited_capacity`: how many records region visited takes: the word that the header has.
-use mathlib.Core.Path.{refl}
+-- `visited_capacity`: how many records region visited takes.
+use native.Mathlib.Omega.{arith}
 use Rattle.model.specs.Image.{table}
-use borrow.Author.Needs.{needs}
 use Rattle.image.proofs.visited_capacity.Statement.{statement}
 use Rattle.image.proofs.visited_capacity.Tie as tie
 use Rattle.image.proofs.visited_capacity.Reads as reads
 use Rattle.image.proofs.visited_capacity.Lts as lts
+use Rattle.image.proofs.capacity.Reads as capacity-reads
 
--- src/lib.rt:181:5
-shared-slice-read-result : tie.Need-shared-slice-read-result
-shared-slice-read-result c = search needs
+capacity-requires : tie.Need-capacity-requires
+capacity-requires c κs = let l = c .before .pre in omega arith
 
--- src/lib.rt:177:1
 returns : tie.Need-returns
 unfolding table
-returns c = refl
+returns c = c .capacity .ensures
 
 pub visited-capacity-spec : {M : Type 1} → statement M
-visited-capacity-spec = tie.close (tie.spec shared-slice-read-result returns)
+visited-capacity-spec = tie.close (tie.spec capacity-requires returns)

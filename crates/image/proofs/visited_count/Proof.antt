@@ -1,19 +1,18 @@
--- `visited_count`: how many visited pairs: the word that the header has.
-use mathlib.Core.Path.{sym}
+-- `visited_count`: how many records region visited has.
+use native.Mathlib.Omega.{arith}
+use mathlib.Core.Path.{sym, _∙_}
 use Rattle.image.proofs.Reading.{visited-count}
-use borrow.Author.Needs.{needs}
 use Rattle.image.proofs.visited_count.Statement.{statement}
 use Rattle.image.proofs.visited_count.Tie as tie
 use Rattle.image.proofs.visited_count.Reads as reads
 use Rattle.image.proofs.visited_count.Lts as lts
+use Rattle.image.proofs.count.Reads as count-reads
 
--- src/lib.rt:138:5
-shared-slice-read-result : tie.Need-shared-slice-read-result
-shared-slice-read-result c = search needs
+count-requires : tie.Need-count-requires
+count-requires c κs = let l = c .before .pre in omega arith
 
--- src/lib.rt:134:1
 returns : tie.Need-returns
-returns c = sym (visited-count _)
+returns c = c .count .ensures ∙ sym (visited-count _)
 
 pub visited-count-spec : {M : Type 1} → statement M
-visited-count-spec = tie.close (tie.spec shared-slice-read-result returns)
+visited-count-spec = tie.close (tie.spec count-requires returns)

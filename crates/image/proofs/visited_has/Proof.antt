@@ -11,43 +11,33 @@ use Rattle.image.proofs.visited_has.Lts as lts
 use Rattle.image.proofs.has_pair.Reads as has-pair-reads
 use Rattle.image.proofs.wide.Reads as wide-reads
 
--- src/lib.rt:698:19
 shared-slice-read-wide : tie.Need-shared-slice-read-wide
 shared-slice-read-wide c = search needs
 
--- src/lib.rt:698:9
 wide-requires : tie.Need-wide-requires
 wide-requires c κs = search needs
 
--- src/lib.rt:699:18
 shared-slice-read-wide-2 : tie.Need-shared-slice-read-wide-2
 shared-slice-read-wide-2 c = search needs
 
--- src/lib.rt:699:9
 wide-requires-2 : tie.Need-wide-requires-2
 wide-requires-2 c κs = search needs
 
--- src/lib.rt:700:14
 mul-has-pair : tie.Need-mul-has-pair
 mul-has-pair c = search needs
 
--- src/lib.rt:700:14
 sub-has-pair : tie.Need-sub-has-pair
 sub-has-pair c = search needs
 
--- src/lib.rt:700:14
 part-has-pair-start : tie.Need-part-has-pair-start
 part-has-pair-start c = search needs
 
--- src/lib.rt:700:14
 part-has-pair-end : tie.Need-part-has-pair-end
 part-has-pair-end c = search needs
 
--- src/lib.rt:700:5
 has-pair-requires : tie.Need-has-pair-requires
 has-pair-requires c κs = search needs
 
--- src/lib.rt:694:1
 returns : tie.Need-returns
 returns c =
     let a = c .before .before .before .before .before .before .before .args in

@@ -1,65 +1,30 @@
--- `visited_word`: word j of visited pair i.
+-- `visited_word`: word j of record i of region visited.
 use native.Mathlib.Omega.{arith}
-use mathlib.Core.Path.{sym}
+use mathlib.Core.Path.{sym, _∙_}
 use denote.Ref.{now}
-use borrow.Author.Needs.{needs}
-use Rattle.image.proofs.Reading.{visited-count, visited-word}
+use Rattle.model.specs.Image.{table}
+use Rattle.laws.proofs.Regions.{visited-coded}
+use Rattle.image.proofs.Reading.{visited-count, visited-at, record-word}
 use Rattle.image.proofs.visited_word.Statement.{statement}
 use Rattle.image.proofs.visited_word.Tie as tie
 use Rattle.image.proofs.visited_word.Reads as reads
 use Rattle.image.proofs.visited_word.Lts as lts
-use Rattle.image.proofs.wide.Reads as wide-reads
+use Rattle.image.proofs.record_word.Reads as record-word-reads
 
--- src/lib.rt:94:16
-shared-slice-read-wide : tie.Need-shared-slice-read-wide
-shared-slice-read-wide c = search needs
+record-word-requires : tie.Need-record-word-requires
+record-word-requires c κs =
+    let s = c .before in
+    let w = now (s .args .image) in
+    let n = visited-count w in
+    (visited-at w (s .pre .0), (omega arith, s .pre .1 .1))
 
--- src/lib.rt:94:11
-wide-requires : tie.Need-wide-requires
-wide-requires c κs = search needs
-
--- src/lib.rt:94:57
-wide-requires-2 : tie.Need-wide-requires-2
-wide-requires-2 c κs = search needs
-
--- src/lib.rt:94:41
-mul-result : tie.Need-mul-result
-mul-result c = search needs
-
--- src/lib.rt:94:11
-add-result : tie.Need-add-result
-add-result c = search needs
-
--- src/lib.rt:94:11
-add-result-2 : tie.Need-add-result-2
-add-result-2 c = search needs
-
--- src/lib.rt:94:5
-mul-result-2 : tie.Need-mul-result-2
-mul-result-2 c = search needs
-
--- src/lib.rt:94:5
-shared-slice-read-result : tie.Need-shared-slice-read-result
-shared-slice-read-result c =
-    let s = c .before .before .before .before .before in
-    omega (arith, visited-count (now (s .args .image)), c .before .before .wide .ensures, c .before .wide2 .ensures)
-
--- src/lib.rt:88:1
 returns : tie.Need-returns
+unfolding table
 returns c =
-    let s = c .before .before .before .before .before in
-    rw (c .before .before .wide .ensures, c .before .wide2 .ensures) (sym (visited-word (now (s .args .image)) (s .pre .0) (s .args .i) (s .args .j) (s .pre .1 .0) (s .pre .1 .1)))
+    let s = c .before .before in
+    let w = now (s .args .image) in
+    let n = visited-count w in
+    c .record-word .ensures ∙ sym (record-word visited-coded (visited-at w (s .pre .0)) (s .args .i) (s .args .j) _ (omega arith) (s .pre .1 .1))
 
 pub visited-word-spec : {M : Type 1} → statement M
-visited-word-spec =
-    tie.close
-    (tie.spec
-    shared-slice-read-wide
-    wide-requires
-    wide-requires-2
-    mul-result
-    add-result
-    add-result-2
-    mul-result-2
-    shared-slice-read-result
-    returns)
+visited-word-spec = tie.close (tie.spec record-word-requires returns)
