@@ -4,48 +4,17 @@ use Prim.Native.Nat.{ℕ, _+_, _*_, _≤_}
 use mathlib.Core.List.{List, [], _∷_}
 use mathlib.Core.Bool.{Bool, _&&_}
 use lib.ListN.{length}
-use lib.Dec.{eqb, leb, ltb}
+use lib.Dec.{ltb}
 use Rattle.model.specs.Lists.{allOf, all}
-use Rattle.model.specs.Format.{headerWords, entriesRegion, fieldsRegion, boundsRegion, visitedRegion, pendingRegion, equalsRegion}
-use Rattle.model.specs.Format.{entryWidth, fieldWidth, boundWidth, visitedWidth, pendingWidth, equalsWidth}
-use Rattle.model.specs.Format.{entriesMost, fieldsMost, boundsMost, visitedMost, pendingMost, equalsMost}
+use Rattle.model.specs.Format.{headerWords}
 use Rattle.model.specs.Table.{Entry, Field, Pair, _⊑_}
 use Rattle.model.specs.Image.{word, offset, capacity, count}
-use Rattle.model.specs.Formed.{headerWhole, formatKnown, stateKnown, pendingWhenAsked, namesFew, functorKnown, regionEnd, restZero, namesAscend, entryRight}
+use Rattle.model.specs.Formed.{headerWhole, formatKnown, stateKnown, pendingWhenAsked, namesFew, functorKnown, namesAscend, entryRight}
 use Rattle.image.specs.Shown.{storeOf, entriesOf, fieldsIn}
 use Rattle.formed.specs.declared.EntryWords.{EntryWords}
 
 unfoldable pub headerRight : List ℕ → Bool
 headerRight ws = allOf (headerWhole ws ∷ formatKnown ws ∷ stateKnown ws ∷ pendingWhenAsked ws ∷ namesFew ws ∷ functorKnown ws ∷ [])
-
--- what is tested of region k but for the words past its count
-unfoldable pub regionLaid : List ℕ → (k most at : ℕ) → Bool
-regionLaid ws k most at = allOf (eqb (offset ws k) at ∷ leb (capacity ws k) most ∷ leb (count ws k) (capacity ws k) ∷ [])
-
-unfoldable pub regionsLaid : List ℕ → Bool
-regionsLaid ws =
-    allOf (
-    regionLaid ws entriesRegion entriesMost headerWords
-    ∷ regionLaid ws fieldsRegion fieldsMost (regionEnd ws entriesRegion entryWidth)
-    ∷ regionLaid ws boundsRegion boundsMost (regionEnd ws fieldsRegion fieldWidth)
-    ∷ regionLaid ws visitedRegion visitedMost (regionEnd ws boundsRegion boundWidth)
-    ∷ regionLaid ws pendingRegion pendingMost (regionEnd ws visitedRegion visitedWidth)
-    ∷ regionLaid ws equalsRegion equalsMost (regionEnd ws pendingRegion pendingWidth)
-    ∷ eqb (regionEnd ws equalsRegion equalsWidth) (length ws)
-    ∷ []
-    )
-
-unfoldable pub restsZero : List ℕ → Bool
-restsZero ws =
-    allOf (
-    restZero ws entriesRegion entryWidth
-    ∷ restZero ws fieldsRegion fieldWidth
-    ∷ restZero ws boundsRegion boundWidth
-    ∷ restZero ws visitedRegion visitedWidth
-    ∷ restZero ws pendingRegion pendingWidth
-    ∷ restZero ws equalsRegion equalsWidth
-    ∷ []
-    )
 
 -- region k lies inside the words
 pub record RegionInside (ws : List ℕ) (k width : ℕ) : Type 0 where

@@ -10,16 +10,17 @@ ghost use Prim.Native.Nat.{_+_, _*_, _≤_, _<_};
 ghost use lib.ListN.{length, take, drop};
 ghost use lib.Dec.{eqb, leb, ltb};
 ghost use Rattle.model.specs.Lists.{isZero, all, allFrom};
-ghost use Rattle.model.specs.Format.{wordEnd, headerWords, idle, variable};
+ghost use Rattle.model.specs.Format.{regions, rows, newest, wordEnd, headerWords, idle, variable};
 ghost use Rattle.model.specs.Table.{entryAt, isAt};
-ghost use Rattle.model.specs.Image.{offset, capacity, count, recordsOf, table};
+ghost use Rattle.model.specs.Parts.{offset, capacity, count, regionsRight, restZero, restsZero};
+ghost use Rattle.model.specs.Image.{recordsOf, table};
 ghost use Rattle.model.specs.Making.{spreadAt, spreadOf};
-ghost use Rattle.model.specs.Formed.{regionEnd, restZero, isEntry, pairRight, breakRight, oneComponent, twoComponents, hasDynamicType, kindKnown, primitiveKnown, componentsBelow, unusedZero, flagsKnown, spreadRight, negationKnown, fieldsRight, fieldRight, boundRight, recordsRight, wellFormed};
+ghost use Rattle.model.specs.Formed.{isEntry, pairRight, breakRight, oneComponent, twoComponents, hasDynamicType, kindKnown, primitiveKnown, componentsBelow, unusedZero, flagsKnown, spreadRight, negationKnown, fieldsRight, fieldRight, boundRight, recordsRight, wellFormed};
 ghost use Rattle.model.specs.Calls.{admission};
 ghost use Rattle.image.specs.Laid.{Laid};
 ghost use Rattle.image.specs.Shown.{storeOf, entriesOf, fieldsIn, boundsAll};
 ghost use Rattle.image.specs.Records.{fieldAt, boundAt};
-ghost use Rattle.formed.specs.Grouped.{headerRight, regionLaid, regionsLaid, RegionInside, restsZero, entryTold, pairOf, ownRight, entryRightIn};
+ghost use Rattle.formed.specs.Grouped.{headerRight, RegionInside, entryTold, pairOf, ownRight, entryRightIn};
 
 // The regions, as lengths. Region k has its offset, capacity and count at 6, 7 and 8 + 3k.
 const ENTRIES: usize = image::ENTRIES as usize;
@@ -103,15 +104,6 @@ fn count(image: &[u32], k: usize) -> usize
     wide(image[8 + 3 * k])
 }
 
-// Where region k ends.
-fn region_end(image: &[u32], k: usize, width: usize) -> usize
-    requires { ⌜ (headerWords ≤ length (now image)) × (k ≤ 6) ⌝ }
-    requires { ⌜ width ≤ 7 ⌝ }
-    ensures { λ r. ⌜ r ≡ regionEnd (now (image .entry)) k width ⌝ }
-{
-    offset(image, k) + width * capacity(image, k)
-}
-
 // Whether pending pairs are there exactly when asked.
 fn pending_when_asked(state: u32, pending: u32) -> bool
     ensures { λ r. ⌜ r ≡ cond (eqb state idle) (isZero pending) (leb 1 pending) ⌝ }
@@ -137,33 +129,28 @@ fn header_right(image: &[u32]) -> bool
         & (image[image::FUNCTOR_AT] <= image[image::NAMES_AT])
 }
 
-// Whether region k starts at a word, its capacity is within a maximum, and its count within its capacity.
-fn region_laid(image: &[u32], k: usize, most: u32, at: usize) -> bool
-    requires { ⌜ (headerWords ≤ length (now image)) × (k ≤ 6) ⌝ }
-    ensures { λ r. ⌜ r ≡ regionLaid (now (image .entry)) k most at ⌝ }
-{
-    let size = capacity(image, k);
-    (offset(image, k) == at) & (size <= wide(most)) & (count(image, k) <= size)
-}
-
-// Whether the six regions follow the header without gaps, and end at the slice's end.
-fn regions_laid(image: &[u32]) -> bool
+// Whether the regions follow the header without gaps and end at the slice's end, and no count passes its capacity.
+fn regions_right(image: &[u32]) -> bool
     requires { ⌜ headerWords ≤ length (now image) ⌝ }
-    ensures { λ r. ⌜ r ≡ regionsLaid (now (image .entry)) ⌝ }
+    ensures { λ r. ⌜ r ≡ regionsRight (regions newest) 1 headerWords (now (image .entry)) ⌝ }
 {
-    let fields_at = region_end(image, ENTRIES, image::ENTRY_WIDTH);
-    let bounds_at = region_end(image, FIELDS, image::FIELD_WIDTH);
-    let visited_at = region_end(image, BOUNDS, image::BOUND_WIDTH);
-    let pending_at = region_end(image, VISITED, image::VISITED_WIDTH);
-    let equals_at = region_end(image, PENDING, image::PENDING_WIDTH);
-    let end = region_end(image, EQUALS, image::EQUALS_WIDTH);
-    region_laid(image, ENTRIES, image::ENTRIES_MOST, image::HEADER_WORDS)
-        & region_laid(image, FIELDS, image::FIELDS_MOST, fields_at)
-        & region_laid(image, BOUNDS, image::BOUNDS_MOST, bounds_at)
-        & region_laid(image, VISITED, image::VISITED_MOST, visited_at)
-        & region_laid(image, PENDING, image::PENDING_MOST, pending_at)
-        & region_laid(image, EQUALS, image::EQUALS_MOST, equals_at)
-        & (end == image.len())
+    let mut at: usize = image::HEADER_WORDS;
+    let mut k: usize = 0;
+    while k < image::REGIONS {
+        let capacity = image[10 + 3 * k];
+        if wide(image[9 + 3 * k]) != at {
+            return false;
+        }
+        if image::MOSTS[k] < capacity {
+            return false;
+        }
+        if capacity < image[11 + 3 * k] {
+            return false;
+        }
+        at = at + image::WIDTHS[k] * wide(capacity);
+        k += 1;
+    }
+    at == image.len()
 }
 
 // Whether all words of region k past its count are 0.
@@ -171,22 +158,24 @@ fn rest_zero(image: &[u32], k: usize, width: usize) -> bool
     requires { ⌜ RegionInside (now image) k width ⌝ }
     ensures { λ r. ⌜ r ≡ restZero (now (image .entry)) k width ⌝ }
 {
-    let start = offset(image, k) + width * count(image, k);
-    let end = region_end(image, k, width);
+    let at = offset(image, k);
+    let start = at + width * count(image, k);
+    let end = at + width * capacity(image, k);
     zeros(&image[start..end])
 }
 
 // Whether all words past a count are 0.
 fn rests_zero(image: &[u32]) -> bool
     requires { ⌜ Laid (now image) ⌝ }
-    ensures { λ r. ⌜ r ≡ restsZero (now (image .entry)) ⌝ }
+    ensures { λ r. ⌜ r ≡ restsZero (rows newest) 1 (now (image .entry)) ⌝ }
 {
-    rest_zero(image, ENTRIES, image::ENTRY_WIDTH)
-        & rest_zero(image, FIELDS, image::FIELD_WIDTH)
-        & rest_zero(image, BOUNDS, image::BOUND_WIDTH)
-        & rest_zero(image, VISITED, image::VISITED_WIDTH)
-        & rest_zero(image, PENDING, image::PENDING_WIDTH)
-        & rest_zero(image, EQUALS, image::EQUALS_WIDTH)
+    let mut ok = true;
+    let mut k: usize = 0;
+    while k < image::REGIONS {
+        ok = ok & rest_zero(image, k + 1, image::WIDTHS[k]);
+        k += 1;
+    }
+    ok
 }
 
 // Whether the break words say no more than their kind has: nothing, a pair, or a pair and a name.
@@ -499,7 +488,7 @@ pub fn check(image: &[u32]) -> bool
     if !header_right(image) {
         return false;
     }
-    if !regions_laid(image) {
+    if !regions_right(image) {
         return false;
     }
     rests_zero(image) & records_right(image)

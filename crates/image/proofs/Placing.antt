@@ -239,4 +239,3 @@ shows-front {rs} {ps} {w} {front} s i v h = record {
 pub shows-long : {rs : List Region} {ps : List Part} {w front : List ℕ} → ShowsParts rs w front ps → 9 ≤ length w
 unfolding image
 shows-long {rs} {ps} {w} {front} s = rw (s .is, length-append front (triples (9 + 3 * length ps) ps ++ bodies ps)) (let n = s .nine in omega arith)
-

@@ -235,7 +235,7 @@ pub const LOWER: u32 = 0;
 
 pub const UPPER: u32 = 1;
 
-// Capacity at most, and at most so many names.
+// Capacity at most.
 pub const ENTRIES_MOST: u32 = 4096;
 
 pub const FIELDS_MOST: u32 = 16384;
@@ -248,6 +248,12 @@ pub const PENDING_MOST: u32 = 65536;
 
 pub const EQUALS_MOST: u32 = 65536;
 
+// The same, region by region.
+pub const WIDTHS: [usize; 6] = [7, 3, 3, 2, 2, 2];
+
+pub const MOSTS: [u32; 6] = [4096, 16384, 65536, 65536, 65536, 65536];
+
+// At most so many names.
 pub const NAMES_MOST: u32 = 4096;
 
 // Spread is at most this.

@@ -22,15 +22,24 @@ add-start : tie.Need-add-start
 add-start c =
     let m = mul-le-mul-right (c .count .result) (c .before .before .before .pre .narrow) in omega (arith, c .count .ensures .1, c .before .offset .ensures .1)
 
-region-end-requires : tie.Need-region-end-requires
-region-end-requires c κs = search needs
+capacity-requires : tie.Need-capacity-requires
+capacity-requires c κs = search needs
+
+mul-end : tie.Need-mul-end
+mul-end c = let m = mul-le-mul-right (c .capacity .result) (c .before .before .before .before .pre .narrow) in omega (arith, c .capacity .ensures .1)
+
+add-end : tie.Need-add-end
+add-end c =
+    let m = mul-le-mul-right (c .capacity .result) (c .before .before .before .before .pre .narrow) in omega (arith, c .capacity .ensures .1, c .before .before .offset .ensures .1)
 
 -- the part's start is at most its end, and that at most the length
-inside : (c : tie.After-region-end) → (c .before .before .offset .result + c .before .before .before .before .args .width * c .before .count .result ≤ c .region-end .result) × (c .region-end .result ≤ length (c .before .before .before .before .args .image .now))
+inside : (c : tie.After-capacity) → let a = c .before .before .before .before .args in
+    (c .before .before .offset .result + a .width * c .before .count .result ≤ c .before .before .offset .result + a .width * c .capacity .result)
+    × (c .before .before .offset .result + a .width * c .capacity .result ≤ length (a .image .now))
 inside c =
     let s = c .before .before .before .before in
     let a = s .args in
-    rest-inside (a .image .now) (a .k) (a .width) (s .pre) _ _ _ (c .before .before .offset .ensures .0) (c .before .count .ensures .0) (c .region-end .ensures)
+    rest-inside (a .image .now) (a .k) (a .width) (s .pre) _ _ _ (c .before .before .offset .ensures .0) (c .before .count .ensures .0) (c .capacity .ensures .0)
 
 mul-zeros : tie.Need-mul-zeros
 mul-zeros c = let h = inside c in omega arith
@@ -51,7 +60,7 @@ returns : tie.Need-returns
 returns c =
     let s = c .before .before .before .before .before .before in
     let a = s .args in
-    c .zeros .ensures ∙ rest-is (a .image .now) (a .k) (a .width) (s .pre) _ _ _ (c .before .before .before .before .offset .ensures .0) (c .before .before .before .count .ensures .0) (c .before .before .region-end .ensures)
+    c .zeros .ensures ∙ rest-is (a .image .now) (a .k) (a .width) (s .pre) _ _ _ (c .before .before .before .before .offset .ensures .0) (c .before .before .before .count .ensures .0) (c .before .before .capacity .ensures .0)
 
 pub rest-zero-spec : {M : Type 1} → statement M
 rest-zero-spec =
@@ -61,7 +70,9 @@ rest-zero-spec =
     count-requires
     mul-start
     add-start
-    region-end-requires
+    capacity-requires
+    mul-end
+    add-end
     mul-zeros
     sub-zeros
     part-zeros-start

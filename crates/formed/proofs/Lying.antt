@@ -1,0 +1,112 @@
+-- The loop over the regions: one region's tests, and the rest. Assumes nothing.
+use Prim.Native.Nat.{ℕ, zero, suc, _+_, _*_, _≤_, _<_}
+use native.Mathlib.Omega.{arith}
+use native.Mathlib.Nat.{mul-le-mul-right}
+use native.Mathlib.Numerals.{add-one}
+use mathlib.Core.Path.{_≡_, refl, sym, ap, _∙_}
+use mathlib.Core.List.{List, [], _∷_}
+use mathlib.Core.Bool.{Bool, true, false, _&&_}
+use lib.ListN.{length, getD, drop}
+use lib.Seq.{drop-cons}
+use lib.Dec.{eqb, leb}
+use borrow.Author.Tests.{eq-eqb, ne-eqb, le-leb, lt-leb}
+use Rattle.model.specs.Lists.{allOf}
+use Rattle.model.specs.Format.{Region, noRegion, rows, regions, newest}
+use Rattle.model.specs.Parts.{word, offset, capacity, count, regionRight, regionsRight, restZero, restsZero}
+use Rattle.image.specs.Laid.{Laid}
+use Rattle.formed.specs.Grouped.{RegionInside}
+
+abbrev pub widths : List ℕ
+widths = 7 ∷ 3 ∷ 3 ∷ 2 ∷ 2 ∷ 2 ∷ []
+
+abbrev pub mosts : List ℕ
+mosts = 4096 ∷ 16384 ∷ 65536 ∷ 65536 ∷ 65536 ∷ 65536 ∷ []
+
+-- the code's two tables are the format's
+pub record Row (j : ℕ) : Type 0 where
+  pub width : getD widths j 0 ≡ getD (regions newest) j noRegion .width
+  pub most : getD mosts j 0 ≡ getD (regions newest) j noRegion .most
+  pub narrow : getD widths j 0 ≤ 7
+
+pub row : (j : ℕ) → j < 6 → Row j
+row zero h = record { width = refl; most = refl; narrow = omega arith }
+row (suc zero) h = record { width = refl; most = refl; narrow = omega arith }
+row (suc (suc zero)) h = record { width = refl; most = refl; narrow = omega arith }
+row (suc (suc (suc zero))) h = record { width = refl; most = refl; narrow = omega arith }
+row (suc (suc (suc (suc zero)))) h = record { width = refl; most = refl; narrow = omega arith }
+row (suc (suc (suc (suc (suc zero))))) h = record { width = refl; most = refl; narrow = omega arith }
+row (suc (suc (suc (suc (suc (suc j)))))) h = absurd (omega arith)
+
+-- the tests from region j + 1 on
+abbrev pub testsFrom : List ℕ → ℕ → ℕ → Bool
+testsFrom w j at = regionsRight (drop j (regions newest)) (1 + j) at w
+
+module _ (w : List ℕ) (j at : ℕ) (h : j < 6) where
+  rest : Bool
+  rest = testsFrom w (j + 1) (at + getD widths j 0 * word w (10 + 3 * j))
+
+  tests : testsFrom w j at ≡ allOf (eqb (word w (9 + 3 * j)) at ∷ leb (word w (10 + 3 * j)) (getD mosts j 0) ∷ leb (word w (11 + 3 * j)) (word w (10 + 3 * j)) ∷ []) && rest
+  unfolding regionsRight regionRight rest
+  tests =
+      let e₁ : 6 + 3 * (1 + j) ≡ 9 + 3 * j = omega arith in
+      let e₂ : 7 + 3 * (1 + j) ≡ 10 + 3 * j = omega arith in
+      let e₃ : 8 + 3 * (1 + j) ≡ 11 + 3 * j = omega arith in
+      let e₄ : 1 + suc j ≡ suc (1 + j) = omega arith in
+      rw (add-one j, drop-cons (regions newest) j noRegion h, row j h .width, row j h .most, e₁, e₂, e₃, e₄)
+
+  pub off-place : (word w (9 + 3 * j) ≡ at → ⊥) → testsFrom w j at ≡ false
+  unfolding allOf
+  off-place n = tests ∙ rw (ne-eqb (word w (9 + 3 * j)) at n)
+
+  module _ (o : word w (9 + 3 * j) ≡ at) where
+    pub over-most : getD mosts j 0 < word w (10 + 3 * j) → testsFrom w j at ≡ false
+    unfolding allOf
+    over-most l = tests ∙ rw (eq-eqb (word w (9 + 3 * j)) at o, lt-leb (word w (10 + 3 * j)) (getD mosts j 0) l)
+
+    pub over-room : word w (10 + 3 * j) ≤ getD mosts j 0 → word w (10 + 3 * j) < word w (11 + 3 * j) → testsFrom w j at ≡ false
+    unfolding allOf
+    over-room m l = tests ∙ rw (eq-eqb (word w (9 + 3 * j)) at o, le-leb (word w (10 + 3 * j)) (getD mosts j 0) m, lt-leb (word w (11 + 3 * j)) (word w (10 + 3 * j)) l)
+
+    pub goes-on : word w (10 + 3 * j) ≤ getD mosts j 0 → word w (11 + 3 * j) ≤ word w (10 + 3 * j)
+        → testsFrom w j at ≡ testsFrom w (j + 1) (at + getD widths j 0 * word w (10 + 3 * j))
+    unfolding allOf rest
+    goes-on m l = tests ∙ rw (eq-eqb (word w (9 + 3 * j)) at o, le-leb (word w (10 + 3 * j)) (getD mosts j 0) m, le-leb (word w (11 + 3 * j)) (word w (10 + 3 * j)) l)
+
+pub at-end : (w : List ℕ) (at : ℕ) → testsFrom w 6 at ≡ eqb at (length w)
+unfolding regionsRight
+at-end w at = refl
+
+-- a region's words stay far below what a usize takes
+pub little : (j c : ℕ) → j < 6 → c < 4294967296 → getD widths j 0 * c ≤ 30064771072
+little j c h k = let m : getD widths j 0 * c ≤ 7 * c = mul-le-mul-right c (row j h .narrow) in omega arith
+
+-- each region inside the words
+pub laid-inside : {w : List ℕ} → Laid w → (j : ℕ) → j < 6 → RegionInside w (j + 1) (getD widths j 0)
+laid-inside l zero h = record { head = l .head; number = omega arith; narrow = omega arith; held = l .entries .held; inside = omega arith }
+laid-inside l (suc zero) h = record { head = l .head; number = omega arith; narrow = omega arith; held = l .fields .held; inside = omega arith }
+laid-inside l (suc (suc zero)) h = record { head = l .head; number = omega arith; narrow = omega arith; held = l .bounds .held; inside = omega arith }
+laid-inside l (suc (suc (suc zero))) h = record { head = l .head; number = omega arith; narrow = omega arith; held = l .visited .held; inside = omega arith }
+laid-inside l (suc (suc (suc (suc zero)))) h = record { head = l .head; number = omega arith; narrow = omega arith; held = l .pending .held; inside = omega arith }
+laid-inside l (suc (suc (suc (suc (suc zero))))) h = record { head = l .head; number = omega arith; narrow = omega arith; held = l .equals .held; inside = omega arith }
+laid-inside l (suc (suc (suc (suc (suc (suc j)))))) h = absurd (omega arith)
+
+-- zeros past the counts from region j + 1 on
+abbrev pub zerosFrom : List ℕ → ℕ → Bool
+zerosFrom w j = restsZero (drop j (rows newest)) (1 + j) w
+
+pub zeros-on : (w : List ℕ) (j : ℕ) → j < 6 → zerosFrom w j ≡ restZero w (j + 1) (getD widths j 0) && zerosFrom w (j + 1)
+unfolding restsZero
+zeros-on w j h =
+    let e₁ : j + 1 ≡ 1 + j = omega arith in
+    let e₂ : 1 + (j + 1) ≡ suc (1 + j) = omega arith in
+    let here : zerosFrom w j ≡ restZero w (1 + j) (getD (rows newest) j noRegion .width) && restsZero (drop (suc j) (rows newest)) (suc (1 + j)) w =
+    ap (λ (rs : List Region). restsZero rs (1 + j) w) (drop-cons (rows newest) j noRegion h) in
+    let there : restsZero (drop (suc j) (rows newest)) (suc (1 + j)) w ≡ zerosFrom w (j + 1) = rw (e₂, add-one j) in
+    here
+    ∙ ap (λ (n : ℕ). restZero w n (getD (rows newest) j noRegion .width) && restsZero (drop (suc j) (rows newest)) (suc (1 + j)) w) (sym e₁)
+    ∙ ap (λ (n : ℕ). restZero w (j + 1) n && restsZero (drop (suc j) (rows newest)) (suc (1 + j)) w) (sym (row j h .width))
+    ∙ ap (λ (b : Bool). restZero w (j + 1) (getD widths j 0) && b) there
+
+pub zeros-end : (w : List ℕ) → zerosFrom w 6 ≡ true
+unfolding restsZero
+zeros-end w = refl
