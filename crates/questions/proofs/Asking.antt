@@ -12,7 +12,7 @@ use Rattle.model.specs.Format.{idle, pendingRegion, equalsRegion}
 use Rattle.model.specs.Table.{Pair, _⊑_, Store, Table, tableOf, stateOf, isAsked, isBroken, withEquals}
 use Rattle.model.specs.Image.{words, table}
 use Rattle.model.specs.Formed.{wellFormed, isEntry}
-use Rattle.model.specs.Room.{fitting}
+use Rattle.model.specs.Room.{firstLacking, deepEnough, fitting}
 use Rattle.model.specs.Calls.{Reply, Turn, refuse, leave, replyOf, provided, whenAsked, leaveBy, leaveIfRoom, isRecorded, recorded, pairsOf, opened, brokenBy, askTurn, abandonTurn, workTurn}
 use Rattle.model.specs.Told.{done, toldRefusal}
 use Rattle.model.specs.declared.Question.{Question}
@@ -133,7 +133,7 @@ module _ (w : List ℕ) (h : T (wellFormed w)) (q : Question) where
   s = storeOf w
 
   lacks-pending : s .capacities .pending < length (pairsOf q) → (ps : List Pair) → fitting (withEquals ps s) (length (pairsOf q)) ≡ lacks (NoRoom pendingRegion)
-  unfolding fitting withEquals
+  unfolding fitting firstLacking deepEnough withEquals
   lacks-pending l ps =
       let e = sound .held in
       rw (le-ltb _ _ (e .entries), le-ltb _ _ (e .fields), le-ltb _ _ (e .bounds), le-ltb _ _ (e .visited), lt-ltb _ _ l)
@@ -145,7 +145,7 @@ module _ (w : List ℕ) (h : T (wellFormed w)) (q : Question) where
 
   module _ (p : length (pairsOf q) ≤ s .capacities .pending) where
     pub no-equals : isRecorded q ≡ true → s .capacities .equals ≤ length (s .equals) → Roomy w q (Y.Refused (NoRoom equalsRegion))
-    unfolding fitting recorded withEquals
+    unfolding fitting firstLacking deepEnough recorded withEquals
     no-equals r l =
         let e = sound .held in
         let more : s .capacities .equals < length (s .equals ++ ((q .left ⊑ q .right) ∷ [])) = simp length-append (omega arith) in

@@ -19,7 +19,7 @@ use Rattle.model.specs.declared.Answer.the-variants as A
 use Rattle.model.specs.declared.Failure.{Failure}
 use Rattle.model.specs.declared.Refusal.{Refusal}
 use Rattle.laws.specs.Good.{Sound}
-use Rattle.laws.proofs.Formed.{sound-table, formed-words}
+use Rattle.laws.proofs.Formed.{sound-within, sound-table, formed-words}
 use Rattle.laws.proofs.Round.{words-table, table-words}
 use Rattle.laws.proofs.StepSound.{keeps-sound}
 use Rattle.image.specs.Shown.{storeOf, pendingIn}
@@ -144,7 +144,7 @@ module _ (w₀ : List ℕ) (budget : ℕ) where
             let a = keeps-sound (storeOf w) u (beforeLast w) qs (lastPair w) (before .store, rw split (before .pending)) (k .1 .1 .0) (k .1 .1 .1 .0) in
             let sound : Sound t = record { store = a .0; pending = a .1 } in
             let e : v ≡ words t = k .1 .1 .1 .1 in
-            let seen : table v ≡ t = ap table e ∙ table-words t (a .0 .held) (a .1 .held) in
+            let seen : table v ≡ t = ap table e ∙ table-words t (sound-within t sound) in
             record {
               formed = subst (λ (x : List ℕ). T (wellFormed x)) (sym e) (formed-words t sound);
               low = omega arith;

@@ -15,7 +15,7 @@ use Rattle.model.specs.Table.{Entry, Bound, Pair, _⊑_, Store, entryAt, isAt, 
 use Rattle.model.specs.Formed.{wellFormed}
 use Rattle.model.specs.Making.{tooDeep, boundsIn, repeats, addBound, changed, withMark, markEntry}
 use Rattle.model.specs.Rules.{visit, fillBreak, passMark}
-use Rattle.model.specs.Room.{fitting}
+use Rattle.model.specs.Room.{firstLacking, deepEnough, fitting}
 use Rattle.model.specs.declared.Failure.{Failure}
 use Rattle.model.specs.declared.Refusal.the-variants.{NoRoom}
 use Rattle.laws.proofs.Entries.{changed-length}
@@ -37,14 +37,14 @@ one-more l x = simp length-append
 -- room for a visited pair and so many consequences, by the numbers that are read
 module _ (w : List ℕ) (good : T (wellFormed w)) (more : ℕ) where
   pub lacks-visited : storeOf w .capacities .visited ≤ length (visitedIn w) → RoomFor w (storeOf w) more (Lacks (NoRoom visitedRegion))
-  unfolding fitting visit withVisited
+  unfolding fitting firstLacking deepEnough visit withVisited
   lacks-visited h p =
       let k = sound-table w good .store .held in
       sym (rw (le-ltb _ _ (k .entries), le-ltb _ _ (k .fields), le-ltb _ _ (k .bounds), lt-ltb (storeOf w .capacities .visited) (length (visitedIn w ++ (p ∷ []))) (omega (arith, one-more (visitedIn w) p))))
 
   module _ (v : length (visitedIn w) < storeOf w .capacities .visited) where
     pub lacks-pending : storeOf w .capacities .pending < length (beforeLast w) + more → RoomFor w (storeOf w) more (Lacks (NoRoom pendingRegion))
-    unfolding fitting visit withVisited
+    unfolding fitting firstLacking deepEnough visit withVisited
     lacks-pending h p =
         let k = sound-table w good .store .held in
         sym (rw (
@@ -70,7 +70,7 @@ pub record Fits (u : Store) (n : ℕ) : Type 0 where
   pub pending : n ≤ u .capacities .pending
 
 pub fits : (u : Store) (n : ℕ) → fitting u n ≡ enough → Fits u n
-unfolding fitting
+unfolding fitting firstLacking deepEnough
 fits u n e =
     let c = u .capacities in
     let entries = passes (ltb (c .entries) (length (u .entries))) _ _ e in
@@ -96,7 +96,7 @@ visited-room w s more r e q =
 
 -- the break words take no room
 pub break-room : (f : Failure) (u : Store) (n : ℕ) → fitting (fillBreak f u) n ≡ fitting u n
-unfolding fillBreak withBroken fitting
+unfolding fillBreak withBroken fitting firstLacking deepEnough
 break-room f u n = by-test (λ (s : Store). fitting s n ≡ fitting u n) (isBroken u) (λ h. refl) (λ h. refl)
 
 -- a bound, unless it repeats one
@@ -109,7 +109,7 @@ module _ (w : List ℕ) (good : T (wellFormed w)) (repeated : Bool) (more : ℕ)
 
   module _ (t : repeated ≡ false) where
     pub lacks-bounds : storeOf w .capacities .bounds ≤ length (boundsAll w) → RoomForBound w repeated more (Lacks (NoRoom boundsRegion))
-    unfolding fitting visit withVisited addBound withBounds
+    unfolding fitting firstLacking deepEnough visit withVisited addBound withBounds
     lacks-bounds h v side b e p =
         let k = sound-table w good .store .held in
         let z : repeats (boundsIn (boundsAll w) v side) b ≡ false = sym e ∙ t in
@@ -117,7 +117,7 @@ module _ (w : List ℕ) (good : T (wellFormed w)) (repeated : Bool) (more : ℕ)
         sym (rw (z, le-ltb _ _ (k .entries), le-ltb _ _ (k .fields), lt-ltb (storeOf w .capacities .bounds) (length (boundsAll w ++ (r ∷ []))) (omega (arith, one-more (boundsAll w) r))))
 
     pub bound-more : length (boundsAll w) < storeOf w .capacities .bounds → (r : RoomFound) → RoomFor w (storeOf w) more r → RoomForBound w repeated more r
-    unfolding fitting visit withVisited addBound withBounds
+    unfolding fitting firstLacking deepEnough visit withVisited addBound withBounds
     bound-more h r q v side b e p =
         let k = sound-table w good .store .held in
         let z : repeats (boundsIn (boundsAll w) v side) b ≡ false = sym e ∙ t in
@@ -134,7 +134,7 @@ mark-deep (e ∷ es) zero = refl
 mark-deep (e ∷ es) (suc n) = ap (λ (t : Bool). ltb spreadMost (e .spread) || t) (mark-deep es n)
 
 marks-room : (b : ℕ) (s : Store) (p : Pair) (n : ℕ) → fitting (visit p (withEntries (markEntry b (s .entries)) s)) n ≡ fitting (visit p s) n
-unfolding fitting visit withVisited markEntry withEntries
+unfolding fitting firstLacking deepEnough visit withVisited markEntry withEntries
 marks-room b s p n = rw (changed-length withMark (s .entries) b, mark-deep (s .entries) b)
 
 pub pass-room : (v side b : ℕ) (s : Store) (p : Pair) (n : ℕ) → fitting (visit p (withEntries (passMark v side b (s .entries)) s)) n ≡ fitting (visit p s) n

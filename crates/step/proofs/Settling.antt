@@ -16,7 +16,7 @@ use Rattle.model.specs.Image.{words, table}
 use Rattle.model.specs.Formed.{wellFormed}
 use Rattle.model.specs.Making.{spreadAt, tooDeep, undone}
 use Rattle.model.specs.Rules.{visit}
-use Rattle.model.specs.Room.{fitting, roomFor}
+use Rattle.model.specs.Room.{firstLacking, deepEnough, fitting, roomFor}
 use Rattle.model.specs.declared.Refusal.{Refusal}
 use Rattle.model.specs.declared.Refusal.the-variants.{NoRoom, TooDeep}
 use Rattle.laws.specs.Good.{Shallow}
@@ -69,7 +69,7 @@ settledIn t before old p q =
 module _ (t : Table) (before : List Pair) (old : ℕ) (p q : Pair) (k : Within t) (room : length before + 1 ≤ t .store .capacities .pending) where
   settled-full : t .store .capacities .visited ≤ length (t .store .visited)
       → settledIn t before old p q ≡ record { says = Refused (NoRoom visitedRegion); words = words (entriesIn t (undone old (t .store .entries))) }
-  unfolding takenBy fitting visit withVisited
+  unfolding takenBy fitting firstLacking deepEnough visit withVisited
   settled-full h =
       let n : length (t .store .visited ++ (p ∷ [])) ≡ length (t .store .visited) + 1 = length-append (t .store .visited) (p ∷ []) in
       rw (le-ltb _ _ (k .held .entries), le-ltb _ _ (k .held .fields), le-ltb _ _ (k .held .bounds), lt-ltb (t .store .capacities .visited) (length (t .store .visited ++ (p ∷ []))) (omega arith))
@@ -79,7 +79,7 @@ module _ (t : Table) (before : List Pair) (old : ℕ) (p q : Pair) (k : Within t
     fits = omega (arith, length-append (t .store .visited) (p ∷ []))
 
     fitted : fitting (visit p (t .store)) (length before + 1) ≡ cond (tooDeep (t .store .entries)) (lacks TooDeep) enough
-    unfolding fitting visit withVisited
+    unfolding fitting firstLacking deepEnough visit withVisited
     fitted =
         rw (le-ltb _ _ (k .held .entries), le-ltb _ _ (k .held .fields), le-ltb _ _ (k .held .bounds), le-ltb (t .store .capacities .visited) (length (t .store .visited ++ (p ∷ []))) fits, le-ltb _ _ room, le-ltb _ _ (k .held .equals))
 
@@ -134,7 +134,7 @@ module _ (w : List ℕ) (good : T (wellFormed w)) (us : List Entry) (p : Pair) w
   -- "5 before 6": there is no room for them, with every word as found
   pub made-none : (q : Pair) → storeOf w .capacities .entries < length us
       → taken w (goes (visit p (withEntries us (storeOf w))) (q ∷ [])) ≡ record { says = Refused (NoRoom entriesRegion); words = w }
-  unfolding takenBy roomFor fitting visit withVisited withEntries
+  unfolding takenBy roomFor fitting firstLacking deepEnough visit withVisited withEntries
   made-none q h = rw (lt-ltb (storeOf w .capacities .entries) (length us) h)
 
   module _ (v : List ℕ) (old : ℕ) (sv : Shows v (entriesTo w us)) (e : old ≡ length (entriesOf w)) where

@@ -13,7 +13,7 @@ use Rattle.model.specs.Table.{Bound, withBounds}
 use Rattle.model.specs.Image.{words, table}
 use Rattle.model.specs.Formed.{wellFormed}
 use Rattle.model.specs.Making.{boundsIn, repeats, addBound}
-use Rattle.model.specs.Room.{fitting}
+use Rattle.model.specs.Room.{firstLacking, deepEnough, fitting}
 use Rattle.model.specs.Calls.{Reply, replyOf, leaveBy, leaveIfRoom, provided, atLevel}
 use Rattle.model.specs.Told.{Told, done, refused}
 use Rattle.laws.proofs.Formed.{sound-table}
@@ -56,7 +56,7 @@ module _ (w : List ℕ) (v side b : ℕ) (good : T (wellFormed w)) where
 
     full-reply : storeOf w .capacities .bounds < length (boundsAll w ++ (record { variable = v; side = side; bound = b } ∷ []))
         → boundReply w v side b ≡ record { says = refused 5 (boundsRegion ∷ []); steps = 0; words = w }
-    unfolding replyOf leaveIfRoom leaveBy addBound fitting withBounds
+    unfolding replyOf leaveIfRoom leaveBy addBound fitting firstLacking deepEnough withBounds
     full-reply h =
         let k = formed-shown w good .within .held in
         rw (r, le-ltb _ _ (k .entries), le-ltb _ _ (k .fields), lt-ltb (storeOf w .capacities .bounds) (length more) h)

@@ -15,7 +15,7 @@ use Rattle.model.specs.Table.{Entry, Field, Table, withEntries, withFields}
 use Rattle.model.specs.Image.{word, words, table, fieldOf}
 use Rattle.model.specs.Formed.{wellFormed}
 use Rattle.model.specs.Making.{Making, spreadOf, putEntry, tooDeep}
-use Rattle.model.specs.Room.{fitting}
+use Rattle.model.specs.Room.{firstLacking, deepEnough, fitting}
 use Rattle.model.specs.Calls.{Reply, replyOf, leaveBy, leaveIfRoom, madeTurn, fieldList, newAttrset, dynamicType, dynamicBit}
 use Rattle.model.specs.Told.{Told, done, refused, bit}
 use Rattle.model.specs.declared.Dynamic.{Dynamic}
@@ -122,13 +122,13 @@ module _ (w l : List ℕ) (wide : Bool) (d : Dynamic) where
 
   reply-full : storeOf w .capacities .entries < length (newAttrset (entriesOf w) (fieldsIn w) (fieldList l) wide d .after)
       → attrsetReply w l wide d ≡ record { says = refused 5 (entriesRegion ∷ []); steps = 0; words = w }
-  unfolding replyOf madeTurn leaveIfRoom leaveBy fitting withEntries withFields
+  unfolding replyOf madeTurn leaveIfRoom leaveBy fitting firstLacking deepEnough withEntries withFields
   reply-full h = rw (lt-ltb (storeOf w .capacities .entries) (length (made .after)) h)
 
   reply-lacks : length (newAttrset (entriesOf w) (fieldsIn w) (fieldList l) wide d .after) ≤ storeOf w .capacities .entries
       → storeOf w .capacities .fields < length (fieldsIn w ++ fieldList l)
       → attrsetReply w l wide d ≡ record { says = refused 5 (fieldsRegion ∷ []); steps = 0; words = w }
-  unfolding replyOf madeTurn leaveIfRoom leaveBy fitting withEntries withFields
+  unfolding replyOf madeTurn leaveIfRoom leaveBy fitting firstLacking deepEnough withEntries withFields
   reply-lacks k h =
       rw (le-ltb (storeOf w .capacities .entries) (length (made .after)) k, lt-ltb (storeOf w .capacities .fields) (length (fieldsIn w ++ fieldList l)) h)
 
@@ -140,7 +140,7 @@ module _ (w l : List ℕ) (wide : Bool) (d : Dynamic) where
         steps = 0;
         words = words (entriesIn (fieldsTo w (fieldsIn w ++ fieldList l)) (newAttrset (entriesOf w) (fieldsIn w) (fieldList l) wide d .after));
       }
-  unfolding replyOf madeTurn leaveIfRoom leaveBy fitting withEntries withFields
+  unfolding replyOf madeTurn leaveIfRoom leaveBy fitting firstLacking deepEnough withEntries withFields
   reply-done k h f e =
       rw (le-ltb (storeOf w .capacities .entries) (length (made .after)) h, le-ltb (storeOf w .capacities .fields) (length (fieldsIn w ++ fieldList l)) f, le-ltb _ _ (k .held .bounds), le-ltb _ _ (k .held .visited), le-ltb _ _ (k .pending), le-ltb _ _ (k .held .equals), e)
 
