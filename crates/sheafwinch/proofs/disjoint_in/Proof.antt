@@ -20,11 +20,9 @@ use Rattle.sheafwinch.proofs.disjoint_in.Lts as lts
 use Rattle.disjoint.proofs.disjoint.Reads as disjoint-reads
 use Rattle.image.proofs.entries_count.Reads as entries-count-reads
 
--- src/lib.rt:49:8
 entries-count-requires : tie.Need-entries-count-requires
 entries-count-requires c κs = formed-laid _ (c .before .pre)
 
--- src/lib.rt:50:9
 returns : tie.Need-returns
 unfolding readDisjointTurn
 returns c =
@@ -32,11 +30,9 @@ returns c =
     let w = now (s .args .image) in
     stopped w BadNumber _ (isEntry (entriesOf w) (s .args .a) && isEntry (entriesOf w) (s .args .b)) (first-no-entry (entriesOf w) (s .args .a) (s .args .b) (omega (arith, c .before .entries-count .ensures))) .says
 
--- src/lib.rt:52:8
 entries-count-requires-2 : tie.Need-entries-count-requires-2
 entries-count-requires-2 c κs = formed-laid _ (c .before .before .before .pre)
 
--- src/lib.rt:53:9
 returns-2 : tie.Need-returns-2
 unfolding readDisjointTurn
 returns-2 c =
@@ -44,13 +40,11 @@ returns-2 c =
     let w = now (s .args .image) in
     stopped w BadNumber _ (isEntry (entriesOf w) (s .args .a) && isEntry (entriesOf w) (s .args .b)) (second-no-entry (entriesOf w) (s .args .a) (s .args .b) (omega (arith, c .before .entries-count2 .ensures))) .says
 
--- src/lib.rt:55:8
 disjoint-requires : tie.Need-disjoint-requires
 disjoint-requires c κs =
     let s = c .before .before .before .before .before in
     (formed-laid _ (s .pre), (sound-table _ (s .pre) .store .good, (omega (arith, c .before .before .before .entries-count .ensures), omega (arith, c .before .entries-count2 .ensures))))
 
--- src/lib.rt:45:1
 returns-3 : tie.Need-returns-3
 unfolding readDisjointTurn replyOf
 returns-3 c =
@@ -61,7 +55,6 @@ returns-3 c =
     (two-entries (entriesOf w) (s .args .a) (s .args .b) (omega (arith, c .before .before .before .before .before .entries-count .ensures)) (omega (arith, c .before .before .before .entries-count2 .ensures)))
     (rw e)
 
--- src/lib.rt:45:1
 returns-4 : tie.Need-returns-4
 unfolding readDisjointTurn replyOf
 returns-4 c =

@@ -17,11 +17,9 @@ use Rattle.sheafwinch.proofs.entry_in.Lts as lts
 use Rattle.image.proofs.entries_count.Reads as entries-count-reads
 use Rattle.image.proofs.entry.Reads as entry-reads
 
--- src/lib.rt:28:8
 entries-count-requires : tie.Need-entries-count-requires
 entries-count-requires c κs = formed-laid _ (c .before .pre)
 
--- src/lib.rt:29:9
 returns : tie.Need-returns
 unfolding readEntryTurn
 returns c =
@@ -29,13 +27,11 @@ returns c =
     let w = now (s .args .image) in
     stopped w BadNumber _ (isEntry (entriesOf w) (s .args .n)) (no-entry (entriesOf w) (s .args .n) (omega (arith, c .before .entries-count .ensures))) .says
 
--- src/lib.rt:31:22
 entry-requires : tie.Need-entry-requires
 entry-requires c κs =
     let s = c .before .before .before in
     (formed-laid _ (s .pre), omega (arith, c .before .entries-count .ensures))
 
--- src/lib.rt:24:1
 returns-2 : tie.Need-returns-2
 unfolding readEntryTurn replyOf
 returns-2 c =

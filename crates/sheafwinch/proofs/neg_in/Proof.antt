@@ -17,16 +17,13 @@ use Rattle.image.proofs.entries_count.Reads as entries-count-reads
 use Rattle.image.proofs.is_asked.Reads as is-asked-reads
 use Rattle.type_table.proofs.make_neg.Reads as make-neg-reads
 
--- src/lib.rt:190:8
 is-asked-requires : tie.Need-is-asked-requires
 is-asked-requires c κs =
     formed-shown _ (c .before .before .pre)
 
--- src/lib.rt:191:9
 same-length : tie.Need-same-length
 same-length c = search needs
 
--- src/lib.rt:191:9
 returns : tie.Need-returns
 unfolding negTurn
 returns c =
@@ -34,16 +31,13 @@ returns c =
     let k = busy (now (s .args .image)) _ (sym (c .before .is-asked .ensures) ∙ c .if1 .taken) in
     (k .says, k .leaves)
 
--- src/lib.rt:193:8
 entries-count-requires : tie.Need-entries-count-requires
 entries-count-requires c κs =
     formed-laid _ (c .before .before .before .before .before .pre)
 
--- src/lib.rt:194:9
 same-length-2 : tie.Need-same-length-2
 same-length-2 c = search needs
 
--- src/lib.rt:194:9
 returns-2 : tie.Need-returns-2
 unfolding negTurn
 returns-2 c =
@@ -53,17 +47,14 @@ returns-2 c =
     (stopped w BadNumber _ (isEntry (entriesOf w) (s .args .n)) (no-entry (entriesOf w) (s .args .n) (omega (arith, c .before .entries-count .ensures)))) in
     (k .says, k .leaves)
 
--- src/lib.rt:196:5
 make-neg-requires : tie.Need-make-neg-requires
 make-neg-requires c κs =
     let s = c .before .before .before .before .before .before .before .before in
     (s .pre, omega (arith, c .before .before .entries-count .ensures))
 
--- src/lib.rt:185:1
 same-length-3 : tie.Need-same-length-3
 same-length-3 c = search needs
 
--- src/lib.rt:185:1
 returns-3 : tie.Need-returns-3
 unfolding negTurn
 returns-3 c =

@@ -17,16 +17,13 @@ use Rattle.image.proofs.entries_count.Reads as entries-count-reads
 use Rattle.image.proofs.is_asked.Reads as is-asked-reads
 use Rattle.type_table.proofs.make.Reads as make-reads
 
--- src/lib.rt:113:8
 is-asked-requires : tie.Need-is-asked-requires
 is-asked-requires c κs =
     formed-shown _ (c .before .before .pre .0)
 
--- src/lib.rt:114:9
 same-length : tie.Need-same-length
 same-length c = search needs
 
--- src/lib.rt:114:9
 returns : tie.Need-returns
 unfolding oneTurn
 returns c =
@@ -34,16 +31,13 @@ returns c =
     let k = busy (now (s .args .image)) _ (sym (c .before .is-asked .ensures) ∙ c .if1 .taken) in
     (k .says, k .leaves)
 
--- src/lib.rt:116:8
 entries-count-requires : tie.Need-entries-count-requires
 entries-count-requires c κs =
     formed-laid _ (c .before .before .before .before .before .pre .0)
 
--- src/lib.rt:117:9
 same-length-2 : tie.Need-same-length-2
 same-length-2 c = search needs
 
--- src/lib.rt:117:9
 returns-2 : tie.Need-returns-2
 unfolding oneTurn
 returns-2 c =
@@ -53,17 +47,14 @@ returns-2 c =
     (stopped w BadNumber _ (isEntry (entriesOf w) (s .args .x)) (no-entry (entriesOf w) (s .args .x) (omega (arith, c .before .entries-count .ensures)))) in
     (k .says, k .leaves)
 
--- src/lib.rt:119:5
 make-requires : tie.Need-make-requires
 make-requires c κs =
     let s = c .before .before .before .before .before .before .before .before in
     (s .pre .0, (λ l. omega (arith, c .before .before .entries-count .ensures), λ l. absurd (omega arith)))
 
--- src/lib.rt:107:1
 same-length-3 : tie.Need-same-length-3
 same-length-3 c = search needs
 
--- src/lib.rt:107:1
 returns-3 : tie.Need-returns-3
 unfolding oneTurn newTurn
 returns-3 c =

@@ -17,16 +17,13 @@ use Rattle.sheafwinch.proofs.primitive_in.Lts as lts
 use Rattle.image.proofs.is_asked.Reads as is-asked-reads
 use Rattle.type_table.proofs.make.Reads as make-reads
 
--- src/lib.rt:75:8
 is-asked-requires : tie.Need-is-asked-requires
 is-asked-requires c κs =
     formed-shown _ (c .before .before .pre)
 
--- src/lib.rt:76:9
 same-length : tie.Need-same-length
 same-length c = search needs
 
--- src/lib.rt:76:9
 returns : tie.Need-returns
 unfolding primitiveTurn
 returns c =
@@ -34,11 +31,9 @@ returns c =
     let k = busy (now (s .args .image)) _ (sym (c .before .is-asked .ensures) ∙ c .if1 .taken) in
     (k .says, k .leaves)
 
--- src/lib.rt:79:9
 same-length-2 : tie.Need-same-length-2
 same-length-2 c = search needs
 
--- src/lib.rt:79:9
 returns-2 : tie.Need-returns-2
 unfolding primitiveTurn
 returns-2 c =
@@ -46,15 +41,12 @@ returns-2 c =
     let k = idle (now (s .args .image)) _ (sym (c .before .before .is-asked .ensures) ∙ c .before .if1 .left) (stopped (now (s .args .image)) BadNumber _ (leb (s .args .which) number) (lt-leb (s .args .which) number (omega arith))) in
     (k .says, k .leaves)
 
--- src/lib.rt:81:5
 make-requires : tie.Need-make-requires
 make-requires c κs = search needs
 
--- src/lib.rt:70:1
 same-length-3 : tie.Need-same-length-3
 same-length-3 c = search needs
 
--- src/lib.rt:70:1
 returns-3 : tie.Need-returns-3
 unfolding primitiveTurn newTurn
 returns-3 c =

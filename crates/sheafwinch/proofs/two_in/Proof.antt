@@ -18,16 +18,13 @@ use Rattle.image.proofs.entries_count.Reads as entries-count-reads
 use Rattle.image.proofs.is_asked.Reads as is-asked-reads
 use Rattle.type_table.proofs.make.Reads as make-reads
 
--- src/lib.rt:161:8
 is-asked-requires : tie.Need-is-asked-requires
 is-asked-requires c κs =
     formed-shown _ (c .before .before .pre)
 
--- src/lib.rt:162:9
 same-length : tie.Need-same-length
 same-length c = search needs
 
--- src/lib.rt:162:9
 returns : tie.Need-returns
 unfolding twoTurn
 returns c =
@@ -35,16 +32,13 @@ returns c =
     let k = busy (now (s .args .image)) _ (sym (c .before .is-asked .ensures) ∙ c .if1 .taken) in
     (k .says, k .leaves)
 
--- src/lib.rt:164:8
 entries-count-requires : tie.Need-entries-count-requires
 entries-count-requires c κs =
     formed-laid _ (c .before .before .before .before .before .pre)
 
--- src/lib.rt:165:9
 same-length-2 : tie.Need-same-length-2
 same-length-2 c = search needs
 
--- src/lib.rt:165:9
 returns-2 : tie.Need-returns-2
 unfolding twoTurn
 returns-2 c =
@@ -54,16 +48,13 @@ returns-2 c =
     (stopped w BadNumber _ (isEntry (entriesOf w) (s .args .x) && isEntry (entriesOf w) (s .args .y)) (first-no-entry (entriesOf w) (s .args .x) (s .args .y) (omega (arith, c .before .entries-count .ensures)))) in
     (k .says, k .leaves)
 
--- src/lib.rt:167:8
 entries-count-requires-2 : tie.Need-entries-count-requires-2
 entries-count-requires-2 c κs =
     formed-laid _ (c .before .before .before .before .before .before .before .before .pre)
 
--- src/lib.rt:168:9
 same-length-3 : tie.Need-same-length-3
 same-length-3 c = search needs
 
--- src/lib.rt:168:9
 returns-3 : tie.Need-returns-3
 unfolding twoTurn
 returns-3 c =
@@ -73,17 +64,14 @@ returns-3 c =
     (stopped w BadNumber _ (isEntry (entriesOf w) (s .args .x) && isEntry (entriesOf w) (s .args .y)) (second-no-entry (entriesOf w) (s .args .x) (s .args .y) (omega (arith, c .before .entries-count2 .ensures)))) in
     (k .says, k .leaves)
 
--- src/lib.rt:170:5
 make-requires : tie.Need-make-requires
 make-requires c κs =
     let s = c .before .before .before .before .before .before .before .before .before .before .before in
     (s .pre, (λ l. omega (arith, c .before .before .before .before .before .entries-count .ensures), λ l. omega (arith, c .before .before .entries-count2 .ensures)))
 
--- src/lib.rt:156:1
 same-length-4 : tie.Need-same-length-4
 same-length-4 c = search needs
 
--- src/lib.rt:156:1
 returns-4 : tie.Need-returns-4
 unfolding twoTurn newTurn
 returns-4 c =

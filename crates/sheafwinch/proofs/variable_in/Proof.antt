@@ -13,16 +13,13 @@ use Rattle.image.proofs.is_asked.Reads as is-asked-reads
 use Rattle.image.proofs.level.Reads as level-reads
 use Rattle.type_table.proofs.make.Reads as make-reads
 
--- src/lib.rt:51:8
 is-asked-requires : tie.Need-is-asked-requires
 is-asked-requires c κs =
     formed-shown _ (c .before .before .pre)
 
--- src/lib.rt:52:9
 same-length : tie.Need-same-length
 same-length c = search needs
 
--- src/lib.rt:52:9
 returns : tie.Need-returns
 unfolding variableTurn
 returns c =
@@ -30,20 +27,16 @@ returns c =
     let k = busy (now (s .args .image)) _ (sym (c .before .is-asked .ensures) ∙ c .if1 .taken) in
     (k .says, k .leaves)
 
--- src/lib.rt:54:9
 level-requires : tie.Need-level-requires
 level-requires c κs =
     formed-laid _ (c .before .before .before .before .before .pre)
 
--- src/lib.rt:55:5
 make-requires : tie.Need-make-requires
 make-requires c κs = search needs
 
--- src/lib.rt:46:1
 same-length-2 : tie.Need-same-length-2
 same-length-2 c = search needs
 
--- src/lib.rt:46:1
 returns-2 : tie.Need-returns-2
 unfolding variableTurn newTurn
 returns-2 c =
