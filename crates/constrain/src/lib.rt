@@ -252,8 +252,8 @@ fn is_chosen(image: &[u32], a: u32, b: u32) -> bool
     if is_var(image, a) {
         return true;
     }
-    if disjoint::holds_variable(image, a) {
-        return !disjoint::holds_variable(image, b);
+    if disjoint::inter_contains_var(image, a) {
+        return !disjoint::inter_contains_var(image, b);
     }
     false
 }
@@ -266,7 +266,7 @@ fn isolate(image: &[u32], c: u32, d: u32, sup: u32) -> Next
     requires { ⌜ sup < length (entriesOf (now image)) ⌝ }
     ensures { λ r. ⌜ ComesUnder (graphIn (now (image .entry))) sup r (isolateOf (graphIn (now (image .entry))) c d sup) ⌝ }
 {
-    if disjoint::disjoint_from_sup(image, sup, d) {
+    if disjoint::is_disjoint_from_sup(image, d, sup) {
         return Next::Mismatch;
     }
     Next::Isolate {
@@ -304,7 +304,7 @@ fn rhs_one_variable(image: &[u32], sub: u32, c: u32, v: u32) -> Next
     requires { ⌜ c < length (entriesOf (now image)) ⌝ }
     ensures { λ r. ⌜ ComesOf (graphIn (now (image .entry))) sub r (rightOpen (graphIn (now (image .entry))) sub c v) ⌝ }
 {
-    if disjoint::compatible(image, sub, c) {
+    if disjoint::is_concrete_compatible(image, sub, c) {
         return Next::Follow(Pairs::One(sub, c));
     }
     Next::Follow(Pairs::One(sub, v))
@@ -349,13 +349,13 @@ fn rhs_concrete(image: &[u32], sub: u32, a: u32, b: u32) -> Next
     requires { ⌜ b < length (entriesOf (now image)) ⌝ }
     ensures { λ r. ⌜ ComesOf (graphIn (now (image .entry))) sub r (rightClosed (graphIn (now (image .entry))) sub a b) ⌝ }
 {
-    if disjoint::disjoint(image, sub, a) {
-        if disjoint::disjoint(image, sub, b) {
+    if disjoint::are_types_disjoint(image, sub, a) {
+        if disjoint::are_types_disjoint(image, sub, b) {
             return Next::Mismatch;
         }
         return Next::Follow(Pairs::One(sub, b));
     }
-    if disjoint::disjoint(image, sub, b) {
+    if disjoint::are_types_disjoint(image, sub, b) {
         return Next::Follow(Pairs::One(sub, a));
     }
     rhs_same_kind(image, sub, a, b)
@@ -408,7 +408,7 @@ fn constrain_under_neg(image: &[u32], sub: u32, n: u32) -> Next
     requires { ⌜ n < length (entriesOf (now image)) ⌝ }
     ensures { λ r. ⌜ ComesOf (graphIn (now (image .entry))) sub r (underNegation (graphIn (now (image .entry))) (entryAt (entriesOf (now (image .entry))) sub) n) ⌝ }
 {
-    if disjoint::disjoint(image, sub, n) {
+    if disjoint::are_types_disjoint(image, sub, n) {
         return Next::Follow(Pairs::Nothing);
     }
     Next::Mismatch

@@ -620,7 +620,7 @@ fn disjoint_in(image: &[u32], a: u32, b: u32) -> Disjointness
     if image::entries_count(image) <= b {
         return Disjointness::Refused(Refusal::BadNumber);
     }
-    if disjoint::disjoint(image, a, b) {
+    if disjoint::are_types_disjoint(image, a, b) {
         Disjointness::Disjoint
     } else {
         Disjointness::NotDisjoint

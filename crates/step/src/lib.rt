@@ -220,7 +220,7 @@ fn make_target(image: &mut [u32], sup: u32, d: u32) -> Negated
     let Negated::Number(n) = type_table::negate(image, d) else {
         return Negated::Full;
     };
-    if disjoint::union_member(image, n, sup) {
+    if disjoint::union_contains_member(image, sup, n) {
         return Negated::Number(sup);
     }
     let number = image::entries_count(image);

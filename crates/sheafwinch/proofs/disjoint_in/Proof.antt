@@ -17,7 +17,7 @@ use Rattle.sheafwinch.proofs.disjoint_in.Statement.{statement}
 use Rattle.sheafwinch.proofs.disjoint_in.Tie as tie
 use Rattle.sheafwinch.proofs.disjoint_in.Reads as reads
 use Rattle.sheafwinch.proofs.disjoint_in.Lts as lts
-use Rattle.disjoint.proofs.disjoint.Reads as disjoint-reads
+use Rattle.disjoint.proofs.are_types_disjoint.Reads as are-types-disjoint-reads
 use Rattle.image.proofs.entries_count.Reads as entries-count-reads
 
 entries-count-requires : tie.Need-entries-count-requires
@@ -40,8 +40,8 @@ returns-2 c =
     let w = now (s .args .image) in
     stopped w BadNumber _ (isEntry (entriesOf w) (s .args .a) && isEntry (entriesOf w) (s .args .b)) (second-no-entry (entriesOf w) (s .args .a) (s .args .b) (omega (arith, c .before .entries-count2 .ensures))) .says
 
-disjoint-requires : tie.Need-disjoint-requires
-disjoint-requires c κs =
+are-types-disjoint-requires : tie.Need-are-types-disjoint-requires
+are-types-disjoint-requires c κs =
     let s = c .before .before .before .before .before in
     (formed-laid _ (s .pre), (sound-table _ (s .pre) .store .good, (omega (arith, c .before .before .before .entries-count .ensures), omega (arith, c .before .entries-count2 .ensures))))
 
@@ -50,7 +50,7 @@ unfolding readDisjointTurn replyOf
 returns-3 c =
     let s = c .before .before .before .before .before .before .before in
     let w = now (s .args .image) in
-    let e : shapes.disjoint (graphIn w) (entryAt (entriesOf w) (s .args .a)) (entryAt (entriesOf w) (s .args .b)) ≡ true = sym (c .before .disjoint .ensures) ∙ c .if3 .taken in
+    let e : shapes.disjoint (graphIn w) (entryAt (entriesOf w) (s .args .a)) (entryAt (entriesOf w) (s .args .b)) ≡ true = sym (c .before .are-types-disjoint .ensures) ∙ c .if3 .taken in
     read-on w BadNumber _ (isEntry (entriesOf w) (s .args .a) && isEntry (entriesOf w) (s .args .b))
     (two-entries (entriesOf w) (s .args .a) (s .args .b) (omega (arith, c .before .before .before .before .before .entries-count .ensures)) (omega (arith, c .before .before .before .entries-count2 .ensures)))
     (rw e)
@@ -60,7 +60,7 @@ unfolding readDisjointTurn replyOf
 returns-4 c =
     let s = c .before .before .before .before .before .before .before in
     let w = now (s .args .image) in
-    let e : shapes.disjoint (graphIn w) (entryAt (entriesOf w) (s .args .a)) (entryAt (entriesOf w) (s .args .b)) ≡ false = sym (c .before .disjoint .ensures) ∙ c .if3 .left in
+    let e : shapes.disjoint (graphIn w) (entryAt (entriesOf w) (s .args .a)) (entryAt (entriesOf w) (s .args .b)) ≡ false = sym (c .before .are-types-disjoint .ensures) ∙ c .if3 .left in
     read-on w BadNumber _ (isEntry (entriesOf w) (s .args .a) && isEntry (entriesOf w) (s .args .b))
     (two-entries (entriesOf w) (s .args .a) (s .args .b) (omega (arith, c .before .before .before .before .before .entries-count .ensures)) (omega (arith, c .before .before .before .entries-count2 .ensures)))
     (rw e)
@@ -73,6 +73,6 @@ disjoint-in-spec =
     returns
     entries-count-requires-2
     returns-2
-    disjoint-requires
+    are-types-disjoint-requires
     returns-3
     returns-4)

@@ -1,11 +1,11 @@
--- `compatible`: whether entry a could be under entry b.
+-- `is_concrete_compatible`: whether entry sub could be under entry target.
 use mathlib.Core.Path.{sym, _∙_}
 use Rattle.disjoint.proofs.Shapes.{same-kind, to-named, to-lambda, to-other}
 use borrow.Author.Needs.{needs}
-use Rattle.disjoint.proofs.compatible.Statement.{statement}
-use Rattle.disjoint.proofs.compatible.Tie as tie
-use Rattle.disjoint.proofs.compatible.Reads as reads
-use Rattle.disjoint.proofs.compatible.Lts as lts
+use Rattle.disjoint.proofs.is_concrete_compatible.Statement.{statement}
+use Rattle.disjoint.proofs.is_concrete_compatible.Tie as tie
+use Rattle.disjoint.proofs.is_concrete_compatible.Reads as reads
+use Rattle.disjoint.proofs.is_concrete_compatible.Lts as lts
 use Rattle.disjoint.proofs.has_functor.Reads as has-functor-reads
 use Rattle.image.proofs.entry_word.Reads as entry-word-reads
 
@@ -34,8 +34,8 @@ returns-4 c =
     let e = c .before .before .before .before .entry-word .ensures in
     to-other _ _ _ (λ q. c .before .before .if1 .left (c .before .before .before .entry-word2 .ensures ∙ q ∙ sym e)) (λ q. c .before .if2 .left (e ∙ q)) (λ q. c .if3 .left (e ∙ q))
 
-pub compatible-spec : {M : Type 1} → statement M
-compatible-spec =
+pub is-concrete-compatible-spec : {M : Type 1} → statement M
+is-concrete-compatible-spec =
     tie.close
     (tie.spec
     entry-word-requires

@@ -1,11 +1,11 @@
--- `disjoint`: whether entries a and b share no value.
+-- `are_types_disjoint`: whether entries a and b share no value.
 use mathlib.Core.Path.{_∙_}
 use Rattle.disjoint.proofs.Shapes.{shape-inside, disjoint-by}
 use borrow.Author.Needs.{needs}
-use Rattle.disjoint.proofs.disjoint.Statement.{statement}
-use Rattle.disjoint.proofs.disjoint.Tie as tie
-use Rattle.disjoint.proofs.disjoint.Reads as reads
-use Rattle.disjoint.proofs.disjoint.Lts as lts
+use Rattle.disjoint.proofs.are_types_disjoint.Statement.{statement}
+use Rattle.disjoint.proofs.are_types_disjoint.Tie as tie
+use Rattle.disjoint.proofs.are_types_disjoint.Reads as reads
+use Rattle.disjoint.proofs.are_types_disjoint.Lts as lts
 use Rattle.disjoint.proofs.shape_of.Reads as shape-of-reads
 use Rattle.disjoint.proofs.are_shapes_disjoint.Reads as are-shapes-disjoint-reads
 use Rattle.image.proofs.entry.Reads as entry-reads
@@ -32,8 +32,8 @@ returns c =
     let p = c .before .before .before .before .before .before .pre in
     c .are-shapes-disjoint .ensures ∙ rw (c .before .before .before .shape-of .ensures, c .before .shape-of2 .ensures) (disjoint-by _ (p .1 .0) _ _ (p .1 .1 .0) (p .1 .1 .1) _ _ (c .before .before .before .before .entry .ensures) (c .before .before .entry2 .ensures))
 
-pub disjoint-spec : {M : Type 1} → statement M
-disjoint-spec =
+pub are-types-disjoint-spec : {M : Type 1} → statement M
+are-types-disjoint-spec =
     tie.close
     (tie.spec
     entry-requires
