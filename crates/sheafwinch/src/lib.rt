@@ -321,7 +321,7 @@ fn enter_in(image: &mut [u32]) -> Reply
     if image::is_asked(image) {
         return Reply::Refused(Refusal::Busy);
     }
-    storage::enter(image)
+    storage::enter_level(image)
 }
 
 // Leaves a level.
@@ -344,7 +344,7 @@ fn exit_in(image: &mut [u32]) -> Reply
     if image::is_asked(image) {
         return Reply::Refused(Refusal::Busy);
     }
-    storage::exit(image)
+    storage::exit_level(image)
 }
 
 // Sets a variable's level.
@@ -373,7 +373,7 @@ fn level_in(image: &mut [u32], v: u32, level: u32) -> Reply
     if image::entry_word(image, v, image::KIND_WORD) != image::VARIABLE {
         return Reply::Refused(Refusal::NotAVariable);
     }
-    storage::set_level(image, v, level);
+    storage::set_var_level(image, v, level);
     Reply::Done
 }
 

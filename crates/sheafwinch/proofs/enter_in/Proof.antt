@@ -23,8 +23,8 @@ returns c =
     let k = busy (now (s .args .image)) _ (sym (c .before .is-asked .ensures) ∙ c .if1 .taken) in
     (k .says, k .leaves)
 
-enter-requires : tie.Need-enter-requires
-enter-requires c κs =
+enter-level-requires : tie.Need-enter-level-requires
+enter-level-requires c κs =
     formed-shown _ (c .before .before .before .before .before .pre)
 
 same-length-2 : tie.Need-same-length-2
@@ -36,7 +36,7 @@ unfolding enterTurn
 returns-2 c =
     let s = c .before .before .before .before .before .before .before .before in
     let w = now (s .args .image) in
-    let k = idle w _ (sym (c .before .before .before .before .before .is-asked .ensures) ∙ c .before .before .before .before .if1 .left) (record { says = c .before .before .enter .ensures .0; leaves = c .before .before .enter .ensures .1 }) in
+    let k = idle w _ (sym (c .before .before .before .before .before .is-asked .ensures) ∙ c .before .before .before .before .if1 .left) (record { says = c .before .before .enter-level .ensures .0; leaves = c .before .before .enter-level .ensures .1 }) in
     (k .says, k .leaves)
 
 pub enter-in-spec : {M : Type 1} → statement M
@@ -46,6 +46,6 @@ enter-in-spec =
     is-asked-requires
     same-length
     returns
-    enter-requires
+    enter-level-requires
     same-length-2
     returns-2)

@@ -23,8 +23,8 @@ returns c =
     let k = busy (now (s .args .image)) _ (sym (c .before .is-asked .ensures) ∙ c .if1 .taken) in
     (k .says, k .leaves)
 
-exit-requires : tie.Need-exit-requires
-exit-requires c κs =
+exit-level-requires : tie.Need-exit-level-requires
+exit-level-requires c κs =
     formed-shown _ (c .before .before .before .before .before .pre)
 
 same-length-2 : tie.Need-same-length-2
@@ -36,7 +36,7 @@ unfolding exitTurn
 returns-2 c =
     let s = c .before .before .before .before .before .before .before .before in
     let w = now (s .args .image) in
-    let k = idle w _ (sym (c .before .before .before .before .before .is-asked .ensures) ∙ c .before .before .before .before .if1 .left) (record { says = c .before .before .exit .ensures .0; leaves = c .before .before .exit .ensures .1 }) in
+    let k = idle w _ (sym (c .before .before .before .before .before .is-asked .ensures) ∙ c .before .before .before .before .if1 .left) (record { says = c .before .before .exit-level .ensures .0; leaves = c .before .before .exit-level .ensures .1 }) in
     (k .says, k .leaves)
 
 pub exit-in-spec : {M : Type 1} → statement M
@@ -46,6 +46,6 @@ exit-in-spec =
     is-asked-requires
     same-length
     returns
-    exit-requires
+    exit-level-requires
     same-length-2
     returns-2)

@@ -64,8 +64,8 @@ returns-3 c =
     (stopped w NotAVariable _ (isAt (entriesOf w) variable (s .args .v)) (kind-other (entriesOf w) (s .args .v) 0 0 (λ e. c .if3 .taken (c .before .entry-word .ensures ∙ e))))) in
     (k .says, k .leaves)
 
-set-level-requires : tie.Need-set-level-requires
-set-level-requires c κs =
+set-var-level-requires : tie.Need-set-var-level-requires
+set-var-level-requires c κs =
     let s = c .before .before .before .before .before .before .before .before .before .before .before in
     (formed-shown _ (s .pre), omega (arith, c .before .before .before .before .before .entries-count .ensures))
 
@@ -81,7 +81,7 @@ returns-4 c =
     let k = idle w _ (sym (c .before .before .before .before .before .before .before .before .before .before .before .is-asked .ensures) ∙ c .before .before .before .before .before .before .before .before .before .before .if1 .left)
     (gone-on w BadNumber _ (isEntry (entriesOf w) (s .args .v)) (an-entry (entriesOf w) (s .args .v) (omega (arith, c .before .before .before .before .before .before .before .before .entries-count .ensures)))
     (gone-on w NotAVariable _ (isAt (entriesOf w) variable (s .args .v)) (kind-variable (entriesOf w) (s .args .v) 0 0 (sym (c .before .before .before .before .before .entry-word .ensures) ∙ c .before .before .before .before .if3 .left))
-    (left-as w _ _ (c .before .before .set-level .ensures)))) in
+    (left-as w _ _ (c .before .before .set-var-level .ensures)))) in
     (k .says, k .leaves)
 
 pub level-in-spec : {M : Type 1} → statement M
@@ -97,6 +97,6 @@ level-in-spec =
     entry-word-requires
     same-length-3
     returns-3
-    set-level-requires
+    set-var-level-requires
     same-length-4
     returns-4)

@@ -1,10 +1,10 @@
--- `enter`: enters a level, unless it is the last.
+-- `exit_level`: leaves a level, unless it is 0.
 use native.Mathlib.Omega.{arith}
 use Rattle.image.proofs.Laying.{shown-laid}
-use Rattle.storage.proofs.Told.{enter-refused, entered}
+use Rattle.storage.proofs.Told.{exit-refused, exited}
 use borrow.Author.Needs.{needs}
-use Rattle.storage.proofs.enter.Statement.{statement}
-use Rattle.storage.proofs.enter.Tie as tie
+use Rattle.storage.proofs.exit_level.Statement.{statement}
+use Rattle.storage.proofs.exit_level.Tie as tie
 
 level-requires : tie.Need-level-requires
 level-requires c κs =
@@ -15,10 +15,10 @@ same-length c = search needs
 
 returns : tie.Need-returns
 returns c =
-    enter-refused _ _ (c .before .level .ensures) (c .if1 .taken)
+    exit-refused _ _ (c .before .level .ensures) (c .if1 .taken)
 
-add-put-current-level : tie.Need-add-put-current-level
-add-put-current-level c = search needs
+sub-put-current-level : tie.Need-sub-put-current-level
+sub-put-current-level c = search needs
 
 put-current-level-requires : tie.Need-put-current-level-requires
 put-current-level-requires c κs = search needs
@@ -28,16 +28,16 @@ same-length-2 c = search needs
 
 returns-2 : tie.Need-returns-2
 returns-2 c =
-    entered _ _ (c .before .before .before .before .before .level .ensures) (omega (arith, c .before .before .before .before .if1 .left)) _ (c .before .before .put-current-level .ensures)
+    exited _ _ (c .before .before .before .before .before .level .ensures) (omega (arith, c .before .before .before .before .if1 .left)) _ (c .before .before .put-current-level .ensures)
 
-pub enter-spec : {M : Type 1} → statement M
-enter-spec =
+pub exit-level-spec : {M : Type 1} → statement M
+exit-level-spec =
     tie.close
     (tie.spec
     level-requires
     same-length
     returns
-    add-put-current-level
+    sub-put-current-level
     put-current-level-requires
     same-length-2
     returns-2)
