@@ -5,14 +5,14 @@ use Rattle.storage.proofs.repeats_bound.Statement.{statement}
 use Rattle.storage.proofs.repeats_bound.Tie as tie
 
 count-bounds-requires : tie.Need-count-bounds-requires
-count-bounds-requires c κs = search needs
+count-bounds-requires c κs = c .before .pre
 
 returns : tie.Need-returns
 returns c =
     not-scanned _ _ _ (c .before .count-bounds .ensures) (c .if1 .taken)
 
 has-bound-requires : tie.Need-has-bound-requires
-has-bound-requires c κs = search needs
+has-bound-requires c κs = c .before .before .before .pre
 
 returns-2 : tie.Need-returns-2
 returns-2 c =
