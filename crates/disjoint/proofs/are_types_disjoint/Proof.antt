@@ -11,13 +11,13 @@ use Rattle.disjoint.proofs.are_shapes_disjoint.Reads as are-shapes-disj
 use Rattle.image.proofs.entry.Reads as entry-reads
 
 entry-requires : tie.Need-entry-requires
-entry-requires c κs = search needs
+entry-requires c κs = let p = c .before .pre in (p .0, p .1 .1 .0)
 
 shape-of-requires : tie.Need-shape-of-requires
 shape-of-requires c κs = search needs
 
 entry-requires-2 : tie.Need-entry-requires-2
-entry-requires-2 c κs = search needs
+entry-requires-2 c κs = let p = c .before .before .before .pre in (p .0, p .1 .1 .1)
 
 shape-of-requires-2 : tie.Need-shape-of-requires-2
 shape-of-requires-2 c κs = search needs

@@ -1,7 +1,7 @@
 -- `is_concrete_compatible`: whether entry sub could be under entry target.
+use native.Mathlib.Omega.{arith}
 use mathlib.Core.Path.{sym, _∙_}
 use Rattle.disjoint.proofs.Shapes.{same-kind, to-named, to-lambda, to-other}
-use borrow.Author.Needs.{needs}
 use Rattle.disjoint.proofs.is_concrete_compatible.Statement.{statement}
 use Rattle.disjoint.proofs.is_concrete_compatible.Tie as tie
 use Rattle.disjoint.proofs.is_concrete_compatible.Reads as reads
@@ -10,10 +10,10 @@ use Rattle.disjoint.proofs.has_functor.Reads as has-functor-reads
 use Rattle.image.proofs.entry_word.Reads as entry-word-reads
 
 entry-word-requires : tie.Need-entry-word-requires
-entry-word-requires c κs = search needs
+entry-word-requires c κs = let p = c .before .pre in (p .0, (p .1 .1 .1, omega arith))
 
 entry-word-requires-2 : tie.Need-entry-word-requires-2
-entry-word-requires-2 c κs = search needs
+entry-word-requires-2 c κs = let p = c .before .before .pre in (p .0, (p .1 .1 .0, omega arith))
 
 returns : tie.Need-returns
 returns c = same-kind _ _ _ (sym (c .before .entry-word2 .ensures) ∙ c .if1 .taken ∙ c .before .before .entry-word .ensures)
@@ -22,7 +22,7 @@ returns-2 : tie.Need-returns-2
 returns-2 c = to-named _ _ _ (λ q. c .before .if1 .left (c .before .before .entry-word2 .ensures ∙ q ∙ sym (c .before .before .before .entry-word .ensures))) (sym (c .before .before .before .entry-word .ensures) ∙ c .if2 .taken)
 
 has-functor-requires : tie.Need-has-functor-requires
-has-functor-requires c κs = search needs
+has-functor-requires c κs = let p = c .before .before .before .before .before .before .pre in (p .0, (p .1 .0, p .1 .1 .0))
 
 returns-3 : tie.Need-returns-3
 returns-3 c =
