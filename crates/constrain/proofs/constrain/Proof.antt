@@ -10,7 +10,7 @@ use Rattle.constrain.proofs.constrain_concrete.Reads as constrain-concr
 use Rattle.constrain.proofs.is_var.Reads as is-var-reads
 
 is-var-requires : tie.Need-is-var-requires
-is-var-requires c κs = search needs
+is-var-requires c κs = let p = c .before .pre in (p .0, p .1 .1 .0)
 
 returns : tie.Need-returns
 unfolding pairRule

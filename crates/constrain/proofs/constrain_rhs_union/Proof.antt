@@ -11,7 +11,7 @@ use Rattle.constrain.proofs.rhs_concrete.Reads as rhs-concrete-reads
 use Rattle.constrain.proofs.rhs_one_variable.Reads as rhs-one-variable-reads
 
 is-var-requires : tie.Need-is-var-requires
-is-var-requires c κs = search needs
+is-var-requires c κs = let p = c .before .pre in (p .0, p .1 .1 .1 .0)
 
 is-var-requires-2 : tie.Need-is-var-requires-2
 is-var-requires-2 c κs = search needs
@@ -21,7 +21,7 @@ unfolding rightBoth rightUnion
 returns c sup = record { means = rw (sym (c .before .before .before .is-var .ensures) ∙ c .before .before .if1 .taken, sym (c .before .is-var2 .ensures) ∙ c .if2 .taken); applies = tt }
 
 rhs-one-variable-requires : tie.Need-rhs-one-variable-requires
-rhs-one-variable-requires c κs = search needs
+rhs-one-variable-requires c κs = let p = c .before .before .before .before .before .pre in (p .0, (p .1 .0, (p .1 .1 .0, p .1 .1 .1 .1)))
 
 returns-2 : tie.Need-returns-2
 unfolding rightUnion
@@ -31,14 +31,14 @@ is-var-requires-3 : tie.Need-is-var-requires-3
 is-var-requires-3 c κs = search needs
 
 rhs-one-variable-requires-2 : tie.Need-rhs-one-variable-requires-2
-rhs-one-variable-requires-2 c κs = search needs
+rhs-one-variable-requires-2 c κs = let p = c .before .before .before .before .before .pre in (p .0, (p .1 .0, (p .1 .1 .0, p .1 .1 .1 .0)))
 
 returns-3 : tie.Need-returns-3
 unfolding rightUnion
 returns-3 c sup = rw (sym (c .before .before .before .before .is-var .ensures) ∙ c .before .before .before .if1 .left, sym (c .before .before .is-var3 .ensures) ∙ c .before .if3 .taken) (c .rhs-one-variable2 .ensures sup)
 
 rhs-concrete-requires : tie.Need-rhs-concrete-requires
-rhs-concrete-requires c κs = search needs
+rhs-concrete-requires c κs = c .before .before .before .before .before .pre
 
 returns-4 : tie.Need-returns-4
 unfolding rightUnion

@@ -1,7 +1,6 @@
 -- `constrain_under_neg`: sub, neither inter nor union, under neg n.
 use mathlib.Core.Path.{sym, _∙_}
 use Rattle.model.specs.Rules.{underNegation}
-use borrow.Author.Needs.{needs}
 use Rattle.constrain.proofs.constrain_under_neg.Statement.{statement}
 use Rattle.constrain.proofs.constrain_under_neg.Tie as tie
 use Rattle.constrain.proofs.constrain_under_neg.Reads as reads
@@ -9,7 +8,7 @@ use Rattle.constrain.proofs.constrain_under_neg.Lts as lts
 use Rattle.disjoint.proofs.are_types_disjoint.Reads as are-types-disjoint-reads
 
 are-types-disjoint-requires : tie.Need-are-types-disjoint-requires
-are-types-disjoint-requires c κs = search needs
+are-types-disjoint-requires c κs = c .before .pre
 
 returns : tie.Need-returns
 unfolding underNegation

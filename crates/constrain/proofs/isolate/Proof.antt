@@ -1,7 +1,6 @@
 -- `isolate`: side c of an inter chosen, d the other.
 use mathlib.Core.Path.{sym, _∙_}
 use Rattle.model.specs.Rules.{isolate}
-use borrow.Author.Needs.{needs}
 use Rattle.constrain.proofs.isolate.Statement.{statement}
 use Rattle.constrain.proofs.isolate.Tie as tie
 use Rattle.constrain.proofs.isolate.Reads as reads
@@ -9,7 +8,7 @@ use Rattle.constrain.proofs.isolate.Lts as lts
 use Rattle.disjoint.proofs.is_disjoint_from_sup.Reads as is-disjoint-from-sup-reads
 
 is-disjoint-from-sup-requires : tie.Need-is-disjoint-from-sup-requires
-is-disjoint-from-sup-requires c κs = search needs
+is-disjoint-from-sup-requires c κs = c .before .pre
 
 returns : tie.Need-returns
 unfolding isolate

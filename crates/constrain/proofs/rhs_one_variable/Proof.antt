@@ -1,7 +1,6 @@
 -- `rhs_one_variable`: a union with one variable on the right: c is the concrete side, v the variable.
 use mathlib.Core.Path.{sym, _∙_}
 use Rattle.model.specs.Rules.{rightOne, rightOpen}
-use borrow.Author.Needs.{needs}
 use Rattle.constrain.proofs.rhs_one_variable.Statement.{statement}
 use Rattle.constrain.proofs.rhs_one_variable.Tie as tie
 use Rattle.constrain.proofs.rhs_one_variable.Reads as reads
@@ -9,7 +8,7 @@ use Rattle.constrain.proofs.rhs_one_variable.Lts as lts
 use Rattle.disjoint.proofs.is_concrete_compatible.Reads as is-concrete-compatible-reads
 
 is-concrete-compatible-requires : tie.Need-is-concrete-compatible-requires
-is-concrete-compatible-requires c κs = search needs
+is-concrete-compatible-requires c κs = c .before .pre
 
 returns : tie.Need-returns
 unfolding rightOne rightOpen
