@@ -1,5 +1,6 @@
 // What a pair (sub, sup) comes to, by the rules of document 01, in the Rust's shape and names. All read the image and write nothing:
 // crate `step` applies what is decided here.
+use decision::Arm;
 use disjoint::Found;
 use model::Attrset;
 use model::Dynamic;
@@ -10,7 +11,7 @@ ghost use Prim.Native.Nat.{_≤_, _<_};
 ghost use lib.ListN.{length};
 ghost use Rattle.model.specs.Format.{variable, attrset};
 ghost use Rattle.model.specs.Table.{_⊑_, entryAt, isAt};
-ghost use Rattle.model.specs.Rules.{mismatch, chosen as chosenOf, isolate as isolateOf, leftInter, rightOpen, rightClosed, rightKind, rightUnion, functorRule, underNegation, attrsets, concrete, pairRule, armOf};
+ghost use Rattle.model.specs.Rules.{mismatch, chosen as chosenOf, isolate as isolateOf, leftInter, rightOpen, rightClosed, rightKind, rightUnion, functorRule, underNegation, attrsets, concrete, pairRule};
 ghost use Rattle.model.specs.Shapes.{functorOf};
 ghost use Rattle.laws.specs.Good.{Good};
 ghost use Rattle.image.specs.Laid.{Laid};
@@ -18,7 +19,6 @@ ghost use Rattle.image.specs.Shown.{storeOf, graphIn, entriesOf, fieldsIn};
 ghost use Rattle.image.specs.Records.{fieldAt};
 ghost use Rattle.disjoint.specs.Fields.{Inside, fieldsHeld};
 ghost use Rattle.constrain.specs.Fields.{askOf, askDynamic, bothDynamic, gatheredIn};
-ghost use Rattle.constrain.specs.Decide.{Fits, armIn};
 ghost use Rattle.constrain.specs.Next.{Comes, ComesUnder, ComesOf, wordsAt, lambdaOf};
 
 // The consequences of a pair, the first to be worked first.
@@ -46,24 +46,6 @@ pub enum Next {
     Lower,
 }
 
-// The rule that fits two concrete entries.
-pub enum Arm {
-    SubNamed,
-    SupNamed,
-    Lambdas,
-    Lists,
-    Attrsets,
-    Nothing,
-    Negs,
-    UnderNeg,
-    SupInter,
-    SubUnion,
-    SubInter,
-    SupUnion,
-    Functor,
-    Mismatch,
-}
-
 // The words of an entry that the rules read.
 pub struct Words {
     pub kind: u32,
@@ -76,53 +58,6 @@ pub enum Ask {
     Under(u32),
     Nothing,
     Missing,
-}
-
-// The kinds of sub and sup, each ten times, so that every pattern is a range.
-struct Kinds(u32, u32);
-
-// The first that fits, by the kinds of sub and sup, and by p and q, their numbers if both are primitives.
-fn first_fit(sub: u32, sup: u32, p: u32, q: u32) -> Arm
-    requires { ⌜ (1 ≤ sub) × (sub ≤ 8) × (1 ≤ sup) × (sup ≤ 8) ⌝ }
-    ensures { λ r. ⌜ Fits r sub sup p q ⌝ }
-{
-    let kinds = Kinds(10 * sub, 10 * sup);
-    match kinds {
-        Kinds(50..=59, _) => Arm::SubNamed,
-        Kinds(_, 50..=59) => Arm::SupNamed,
-        Kinds(30..=39, 30..=39) => Arm::Lambdas,
-        Kinds(20..=29, 20..=29) => Arm::Lists,
-        Kinds(40..=49, 40..=49) => Arm::Attrsets,
-        Kinds(0..=19, 0..=19) => {
-            if p == q {
-                Arm::Nothing
-            } else if q == image::NUMBER {
-                match p {
-                    2..=3 => Arm::Nothing,
-                    _ => Arm::Mismatch,
-                }
-            } else {
-                Arm::Mismatch
-            }
-        }
-        Kinds(60..=69, 60..=69) => Arm::Negs,
-        Kinds(0..=69, 60..=69) => Arm::UnderNeg,
-        Kinds(_, 70..=79) => Arm::SupInter,
-        Kinds(80.., _) => Arm::SubUnion,
-        Kinds(70..=79, _) => Arm::SubInter,
-        Kinds(_, 80..) => Arm::SupUnion,
-        Kinds(40..=49, 30..=39) => Arm::Functor,
-        _ => Arm::Mismatch,
-    }
-}
-
-// The same, as the rules say it.
-fn decide(sub: u32, sup: u32, p: u32, q: u32) -> Arm
-    requires { ⌜ (1 ≤ sub) × (sub ≤ 8) × (1 ≤ sup) × (sup ≤ 8) ⌝ }
-    ensures { λ r. ⌜ armIn r ≡ armOf sub sup p q ⌝ }
-    ensures { λ r. ⌜ Fits r sub sup p q ⌝ }
-{
-    first_fit(sub, sup, p, q)
 }
 
 // Whether entry n is a variable.
@@ -426,7 +361,7 @@ fn constrain_concrete(image: &[u32], sub: u32, sup: u32) -> Next
 {
     let a = words_of(image, sub);
     let b = words_of(image, sup);
-    let arm = decide(a.kind, b.kind, a.x, b.x);
+    let arm = decision::decide(a.kind, b.kind, a.x, b.x);
     match arm {
         Arm::SubNamed => Next::Follow(Pairs::One(a.x, sup)),
         Arm::SupNamed => Next::Follow(Pairs::One(sub, b.x)),

@@ -14,7 +14,7 @@ use Rattle.constrain.proofs.constrain_functor.Reads as constrain-functo
 use Rattle.constrain.proofs.constrain_lhs_inter.Reads as constrain-lhs-inter-reads
 use Rattle.constrain.proofs.constrain_rhs_union.Reads as constrain-rhs-union-reads
 use Rattle.constrain.proofs.constrain_under_neg.Reads as constrain-under-neg-reads
-use Rattle.constrain.proofs.decide.Reads as decide-reads
+use Rattle.decision.proofs.decide.Reads as decide-reads
 use Rattle.constrain.proofs.words_of.Reads as words-of-reads
 
 decided : (c : lts.After-decide (

@@ -5,11 +5,11 @@ use mathlib.Core.Path.{_≡_, refl}
 use mathlib.Core.Bool.{Bool, true, false, not, _&&_, _||_}
 use lib.Dec.{eqb}
 use borrow.Author.Tests.{eqb-true, eqb-false, eq-eqb, ne-eqb}
-use Rattle.constrain.specs.Decide.{Not, Fits, armIn}
+use Rattle.decision.specs.Decide.{Not, ArmFits, armIn}
 use Rattle.model.specs.Shapes.{underNumber}
 use Rattle.model.specs.Rules.{armOf}
-use Rattle.constrain.specs.declared.Arm.{Arm}
-use Rattle.constrain.specs.declared.Arm.the-variants.{SubNamed, SupNamed, Lambdas, Lists, Attrsets, Nothing, Negs, UnderNeg, SupInter, SubUnion, SubInter, SupUnion, Functor, Mismatch}
+use Rattle.decision.specs.declared.Arm.{Arm}
+use Rattle.decision.specs.declared.Arm.the-variants.{SubNamed, SupNamed, Lambdas, Lists, Attrsets, Nothing, Negs, UnderNeg, SupInter, SubUnion, SubInter, SupUnion, Functor, Mismatch}
 
 and-false : (t : Bool) → (t && false) ≡ false
 and-false true = refl
@@ -55,7 +55,7 @@ unfit p q n h = rw (ne-eqb p q n) (cases (eqb p 2) (eqb p 3) (eqb q 7) refl refl
     cases false true true es et eu = let e = eqb-true p 3 et in absurd (h (omega arith) (omega arith) (eqb-true q 7 eu))
     cases false false true es et eu = refl
 
-pub leaf : (x : Arm) (a b p q : ℕ) → Fits x a b p q → armIn x ≡ armOf a b p q
+pub leaf : (x : Arm) (a b p q : ℕ) → ArmFits x a b p q → armIn x ≡ armOf a b p q
 unfolding armOf
 leaf SubNamed a b p q h = rw h
 leaf SupNamed a b p q h = rw (h .0, ne-eqb a 5 (h .1))
