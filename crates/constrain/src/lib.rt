@@ -1,7 +1,7 @@
 // What a pair (sub, sup) comes to, by the rules of document 01, in the Rust's shape and names. All read the image and write nothing:
 // crate `step` applies what is decided here.
 use decision::Arm;
-use disjoint::Found;
+use disjoint::FieldFound;
 use model::Attrset;
 use model::Dynamic;
 use model::Entry;
@@ -54,7 +54,7 @@ pub struct Words {
 }
 
 // What a field of sup asks of sub: an entry under its own, nothing, or it is missing.
-pub enum Ask {
+pub enum FieldAsk {
     Under(u32),
     Nothing,
     Missing,
@@ -82,26 +82,26 @@ fn words_of(image: &[u32], n: u32) -> Words
 }
 
 // What field record j asks of an attrset that has no field of its name.
-fn asks_dynamic(image: &[u32], a: Attrset, j: u32) -> Ask
+fn asks_dynamic(image: &[u32], a: Attrset, j: u32) -> FieldAsk
     requires { ⌜ Laid (now image) ⌝ }
     requires { ⌜ j < length (fieldsIn (now image)) ⌝ }
     ensures { λ r. ⌜ r ≡ askDynamic (a .dynamic) (a .is_open) (fieldAt (fieldsIn (now (image .entry))) j) ⌝ }
 {
     let dynamic = a.dynamic;
     if let Dynamic::Present(n) = dynamic {
-        return Ask::Under(n);
+        return FieldAsk::Under(n);
     }
     if a.is_open {
-        return Ask::Nothing;
+        return FieldAsk::Nothing;
     }
     if image::field_word(image, j, image::OPTIONAL_WORD) == 0 {
-        return Ask::Missing;
+        return FieldAsk::Missing;
     }
-    Ask::Nothing
+    FieldAsk::Nothing
 }
 
 // What field record j asks of the attrset a.
-pub fn asks(image: &[u32], a: Attrset, j: u32) -> Ask
+pub fn asks(image: &[u32], a: Attrset, j: u32) -> FieldAsk
     requires { ⌜ Laid (now image) ⌝ }
     requires { ⌜ Inside (fieldsIn (now image)) a ⌝ }
     requires { ⌜ j < length (fieldsIn (now image)) ⌝ }
@@ -110,8 +110,8 @@ pub fn asks(image: &[u32], a: Attrset, j: u32) -> Ask
     let name = image::field_word(image, j, image::NAME_WORD);
     let found = disjoint::field_named(image, a.first, a.count, name);
     match found {
-        Found::At(i) => Ask::Under(image::field_word(image, i, image::ENTRY_WORD)),
-        Found::Nothing => asks_dynamic(image, a, j),
+        FieldFound::At(i) => FieldAsk::Under(image::field_word(image, i, image::ENTRY_WORD)),
+        FieldFound::Nothing => asks_dynamic(image, a, j),
     }
 }
 
@@ -141,11 +141,11 @@ fn gather(image: &[u32], a: Attrset, b: Attrset) -> Next
     while j < end {
         let ask = asks(image, a, j);
         match ask {
-            Ask::Under(_) => {
+            FieldAsk::Under(_) => {
                 n += 1;
             }
-            Ask::Nothing => {}
-            Ask::Missing => {
+            FieldAsk::Nothing => {}
+            FieldAsk::Missing => {
                 return Next::Missing(image::field_word(image, j, image::NAME_WORD));
             }
         }
@@ -326,12 +326,12 @@ fn constrain_functor(image: &[u32], sub: u32, param: u32, body: u32) -> Next
 {
     let found = disjoint::functor_of(image, sub);
     match found {
-        Found::At(i) => Next::Functor {
+        FieldFound::At(i) => Next::Functor {
             field: image::field_word(image, i, image::ENTRY_WORD),
             param,
             body,
         },
-        Found::Nothing => Next::Mismatch,
+        FieldFound::Nothing => Next::Mismatch,
     }
 }
 

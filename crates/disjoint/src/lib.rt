@@ -16,7 +16,7 @@ ghost use Rattle.disjoint.specs.Fields.{Inside, fieldsHeld, numberNamed,
 ghost use Rattle.disjoint.specs.Shapes.{shapeOf, ShapeInside, lacksSome, closedLacksIn, attrsetsDisjointIn, callable, shapesDisjoint};
 
 // A field record by its number, if there is one.
-pub enum Found {
+pub enum FieldFound {
     At(u32),
     Nothing,
 }
@@ -32,17 +32,17 @@ pub enum Shape {
 }
 
 // Whether there is one.
-fn is_found(f: Found) -> bool
+fn is_found(f: FieldFound) -> bool
     ensures { λ r. ⌜ r ≡ isFound f ⌝ }
 {
     match f {
-        Found::At(_) => true,
-        Found::Nothing => false,
+        FieldFound::At(_) => true,
+        FieldFound::Nothing => false,
     }
 }
 
 // The record of the field with that name, among the records first to first + count - 1.
-pub fn field_named(image: &[u32], first: u32, count: u32, name: u32) -> Found
+pub fn field_named(image: &[u32], first: u32, count: u32, name: u32) -> FieldFound
     requires { ⌜ Laid (now image) ⌝ }
     requires { ⌜ first + count ≤ length (fieldsIn (now image)) ⌝ }
     ensures { λ r. ⌜ r ≡ numberNamed (fieldsIn (now (image .entry))) first count name ⌝ }
@@ -51,28 +51,28 @@ pub fn field_named(image: &[u32], first: u32, count: u32, name: u32) -> Found
     let mut i = first;
     while i < end {
         if image::field_word(image, i, image::NAME_WORD) == name {
-            return Found::At(i);
+            return FieldFound::At(i);
         }
         i += 1;
     }
-    Found::Nothing
+    FieldFound::Nothing
 }
 
 // The record of the field `__functor` among these.
-fn functor_among(image: &[u32], first: u32, count: u32) -> Found
+fn functor_among(image: &[u32], first: u32, count: u32) -> FieldFound
     requires { ⌜ Laid (now image) ⌝ }
     requires { ⌜ first + count ≤ length (fieldsIn (now image)) ⌝ }
     ensures { λ r. ⌜ r ≡ functorNumber (fieldsIn (now (image .entry))) first count (storeOf (now (image .entry)) .functor) ⌝ }
 {
     let word = image::functor(image);
     if word == 0 {
-        return Found::Nothing;
+        return FieldFound::Nothing;
     }
     field_named(image, first, count, word - 1)
 }
 
 // The record of the field `__functor` of entry n, if it is an attrset that has one.
-pub fn functor_of(image: &[u32], n: u32) -> Found
+pub fn functor_of(image: &[u32], n: u32) -> FieldFound
     requires { ⌜ Laid (now image) ⌝ }
     requires { ⌜ Good (storeOf (now image)) ⌝ }
     requires { ⌜ n < length (entriesOf (now image)) ⌝ }
@@ -80,7 +80,7 @@ pub fn functor_of(image: &[u32], n: u32) -> Found
 {
     let e = image::entry(image, n);
     let Entry::AttrSet(a) = e else {
-        return Found::Nothing;
+        return FieldFound::Nothing;
     };
     functor_among(image, a.first, a.count)
 }

@@ -24,7 +24,7 @@ use Rattle.type_table.specs.Made.{entriesIn, Negatable, NegatedIn}
 use Rattle.type_table.specs.declared.Negated.{Negated}
 use Rattle.type_table.specs.declared.Negated.the-variants as N
 use Rattle.type_table.proofs.Replies.{made-full, made-deep, made-done, neg-too-deep}
-use Rattle.type_table.proofs.Steps.{Replies, replied}
+use Rattle.type_table.proofs.WaysOut.{Replies, replied}
 use Rattle.type_table.proofs.Undoing.{seen-entries}
 use Rattle.type_table.proofs.Negating.{full-lacks, made-fits, made-number, made-shows}
 

@@ -2,7 +2,7 @@
 use native.Mathlib.Omega.{arith}
 use mathlib.Core.Path.{sym, ap, _∙_}
 use Rattle.disjoint.proofs.Finding.{named-there}
-use Rattle.constrain.specs.declared.Ask.the-variants.{Under}
+use Rattle.constrain.specs.declared.FieldAsk.the-variants.{Under}
 use Rattle.constrain.proofs.Gathering.{named-by, ask-found, ask-nothing}
 use borrow.Author.Needs.{needs}
 use Rattle.constrain.proofs.asks.Statement.{statement}

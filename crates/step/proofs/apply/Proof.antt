@@ -12,8 +12,8 @@ use Rattle.step.proofs.apply.Reads as reads
 use Rattle.step.proofs.apply.Lts as lts
 use Rattle.step.proofs.fail.Reads as fail-reads
 use Rattle.step.proofs.follow.Reads as follow-reads
-use Rattle.step.proofs.functor.Reads as functor-reads
-use Rattle.step.proofs.isolate.Reads as isolate-reads
+use Rattle.step.proofs.follow_functor.Reads as follow-functor-reads
+use Rattle.step.proofs.follow_isolated.Reads as follow-isolated-reads
 use Rattle.step.proofs.join_bounds.Reads as join-bounds-reads
 
 enum-told : tie.Need-enum-told
@@ -37,14 +37,14 @@ follow-requires c κs = (c .before .before .before .before .before .pre .0, (c .
 enum-known-next-3 : tie.Need-enum-known-next-3
 enum-known-next-3 c = search needs
 
-isolate-requires : tie.Need-isolate-requires
-isolate-requires c κs = (c .before .before .before .before .before .pre .0, (c .before .before .before .before .before .pre .1 .0, (c .before .before .before .before .before .pre .1 .1 .1 .0, subst (Applicable (graphIn (now (c .before .before .before .before .before .args .image)))) (c .before .before .next3 .given .1) (c .before .before .before .before .before .pre .1 .1 .1 .1))))
+follow-isolated-requires : tie.Need-follow-isolated-requires
+follow-isolated-requires c κs = (c .before .before .before .before .before .pre .0, (c .before .before .before .before .before .pre .1 .0, (c .before .before .before .before .before .pre .1 .1 .1 .0, subst (Applicable (graphIn (now (c .before .before .before .before .before .args .image)))) (c .before .before .next3 .given .1) (c .before .before .before .before .before .pre .1 .1 .1 .1))))
 
 enum-known-next-4 : tie.Need-enum-known-next-4
 enum-known-next-4 c = search needs
 
-functor-requires : tie.Need-functor-requires
-functor-requires c κs = (c .before .before .before .before .before .pre .0, c .before .before .before .before .before .pre .1 .0)
+follow-functor-requires : tie.Need-follow-functor-requires
+follow-functor-requires c κs = (c .before .before .before .before .before .pre .0, c .before .before .before .before .before .pre .1 .0)
 
 enum-told-2 : tie.Need-enum-told-2
 enum-told-2 c = search needs
@@ -80,13 +80,13 @@ same-length-4 : tie.Need-same-length-4
 same-length-4 c = search needs
 
 returns-4 : tie.Need-returns-4
-returns-4 c = applied-as _ _ _ _ _ _ (c .before .before .before .before .before .next3 .given .1) (c .before .before .isolate .ensures)
+returns-4 c = applied-as _ _ _ _ _ _ (c .before .before .before .before .before .next3 .given .1) (c .before .before .follow-isolated .ensures)
 
 same-length-5 : tie.Need-same-length-5
 same-length-5 c = search needs
 
 returns-5 : tie.Need-returns-5
-returns-5 c = applied-as _ _ _ _ _ _ (c .before .before .before .before .before .next4 .given .1) (c .before .before .functor .ensures)
+returns-5 c = applied-as _ _ _ _ _ _ (c .before .before .before .before .before .next4 .given .1) (c .before .before .follow-functor .ensures)
 
 same-length-6 : tie.Need-same-length-6
 same-length-6 c = search needs
@@ -111,9 +111,9 @@ apply-spec =
     enum-known-next-2
     follow-requires
     enum-known-next-3
-    isolate-requires
+    follow-isolated-requires
     enum-known-next-4
-    functor-requires
+    follow-functor-requires
     enum-told-2
     join-bounds-requires
     enum-told-3

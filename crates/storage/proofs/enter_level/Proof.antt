@@ -1,7 +1,7 @@
 -- `enter_level`: enters a level, unless it is the last.
 use native.Mathlib.Omega.{arith}
 use Rattle.image.proofs.Laying.{shown-laid}
-use Rattle.storage.proofs.Told.{enter-refused, entered}
+use Rattle.storage.proofs.Replying.{enter-refused, entered}
 use borrow.Author.Needs.{needs}
 use Rattle.storage.proofs.enter_level.Statement.{statement}
 use Rattle.storage.proofs.enter_level.Tie as tie

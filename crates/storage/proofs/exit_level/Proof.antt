@@ -1,7 +1,7 @@
 -- `exit_level`: leaves a level, unless it is 0.
 use native.Mathlib.Omega.{arith}
 use Rattle.image.proofs.Laying.{shown-laid}
-use Rattle.storage.proofs.Told.{exit-refused, exited}
+use Rattle.storage.proofs.Replying.{exit-refused, exited}
 use borrow.Author.Needs.{needs}
 use Rattle.storage.proofs.exit_level.Statement.{statement}
 use Rattle.storage.proofs.exit_level.Tie as tie

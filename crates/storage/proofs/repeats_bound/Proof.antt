@@ -1,5 +1,5 @@
 -- `repeats_bound`: whether b would repeat a bound of v on a side: a longer list is not scanned.
-use Rattle.storage.proofs.Told.{scanned, not-scanned}
+use Rattle.storage.proofs.Replying.{scanned, not-scanned}
 use borrow.Author.Needs.{needs}
 use Rattle.storage.proofs.repeats_bound.Statement.{statement}
 use Rattle.storage.proofs.repeats_bound.Tie as tie

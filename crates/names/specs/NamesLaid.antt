@@ -5,6 +5,6 @@ use mathlib.Core.List.{List}
 use lib.ListN.{length}
 use Rattle.names.specs.Names.{nameCount, bytesAt, nameAt}
 
-pub record Laid (bs : List ℕ) : Type 0 where
+pub record NamesLaid (bs : List ℕ) : Type 0 where
   pub whole : bytesAt bs ≤ length bs
   pub inside : (i : ℕ) → i < nameCount bs → (nameAt bs i ≤ nameAt bs (i + 1)) × (nameAt bs (i + 1) ≤ length bs)

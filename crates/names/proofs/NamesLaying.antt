@@ -7,7 +7,7 @@ use mathlib.Core.Bool.{true}
 use lib.ListN.{length, getD, take, drop}
 use borrow.Author.Tests.{leb-true, eqb-true}
 use Rattle.names.specs.Names.{nameCount, nameOffset, bytesAt, nameAt, nameOf, headerWhole, risesAt, noneFalls, lastRight, tests, namesRight}
-use Rattle.names.specs.Laid.{Laid}
+use Rattle.names.specs.NamesLaid.{NamesLaid}
 use Rattle.names.proofs.All.{all-at, all-of-at}
 
 pub name-part : (bs : List ℕ) (i a b : ℕ) → a ≡ nameAt bs i → b ≡ nameAt bs (i + 1) → take (b - a) (drop a bs) ≡ nameOf bs i
@@ -26,7 +26,7 @@ module _ (bs : List ℕ) (w : headerWhole bs ≡ true) (f : noneFalls bs ≡ tru
       let on : nameOffset bs (i + 1) ≤ nameOffset bs (nameCount bs) = below-last k (i + 1) (omega arith) in
       omega arith
 
-  pub laid : Laid bs
+  pub laid : NamesLaid bs
   laid = record {
     whole = leb-true _ _ w;
     inside = λ i h.
@@ -38,7 +38,7 @@ module _ (bs : List ℕ) (w : headerWhole bs ≡ true) (f : noneFalls bs ≡ tru
   }
 
 -- a list that is right has its names inside it
-pub right-laid : (bs : List ℕ) → namesRight bs ≡ true → Laid bs
+pub right-laid : (bs : List ℕ) → namesRight bs ≡ true → NamesLaid bs
 unfolding namesRight
 right-laid bs e =
     let test : (k : ℕ) → getD (tests bs) k true ≡ true = all-of-at (tests bs) e in

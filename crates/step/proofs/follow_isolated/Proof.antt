@@ -2,8 +2,8 @@
 use Rattle.image.proofs.Laying.{formed-laid}
 use Rattle.step.proofs.Isolating.{isolate-asks, isolate-undo, isolate-full, isolate-settle, isolate-told}
 use borrow.Author.Needs.{needs}
-use Rattle.step.proofs.isolate.Statement.{statement}
-use Rattle.step.proofs.isolate.Tie as tie
+use Rattle.step.proofs.follow_isolated.Statement.{statement}
+use Rattle.step.proofs.follow_isolated.Tie as tie
 
 entries-count-requires : tie.Need-entries-count-requires
 entries-count-requires c κs =
@@ -46,8 +46,8 @@ returns-2 c =
     let p = c .before .before .before .before .before .before .before .before .before .before .before .before .before .before .pre in
     isolate-told _ (c .before .before .before .before .before .before .before .before .before .before .before .before .before .before .args .sub) _ (c .before .before .before .before .before .before .before .before .before .before .before .before .before .before .args .c) _ (p .0) (p .1 .1 .0) (p .1 .1 .1) _ (c .before .before .before .before .before .before .before .before .before .before .before .entries-count .ensures) _ _ (c .before .before .before .before .before .before .before .before .before .make-target .ensures) _ (c .before .before .before .before .before .target .given .1) _ _ (c .before .before .settle .ensures)
 
-pub isolate-spec : {M : Type 1} → statement M
-isolate-spec =
+pub follow-isolated-spec : {M : Type 1} → statement M
+follow-isolated-spec =
     tie.close
     (tie.spec
     entries-count-requires

@@ -37,15 +37,15 @@ module _ (es : List Entry) (kind x y : ℕ) where
   spread-both h = rw (lt-leb kind attrset (omega arith), lt-leb kind neg h)
 
 -- what is told, and the words left
-abbrev pub Replies : List ℕ → Making → Told → List ℕ → Type 0
-Replies w m says v = (says ≡ madeReply w m .says) × (v ≡ madeReply w m .words)
+abbrev pub MakesReply : List ℕ → Making → Told → List ℕ → Type 0
+MakesReply w m says v = (says ≡ madeReply w m .says) × (v ≡ madeReply w m .words)
 
-pub replied : (w : List ℕ) (m : Making) (r : Reply) → madeReply w m ≡ r → Replies w m (r .says) (r .words)
+pub replied : (w : List ℕ) (m : Making) (r : Reply) → madeReply w m ≡ r → MakesReply w m (r .says) (r .words)
 replied w m r e = (ap (λ (q : Reply). q .says) (sym e), ap (λ (q : Reply). q .words) (sym e))
 
 module _ (w : List ℕ) (kind x y : ℕ) (good : T (wellFormed w)) where
   pub make-full : (number room : ℕ) → number ≡ length (entriesOf w) → room ≡ storeOf w .capacities .entries → room ≤ number
-      → Replies w (newEntry (entriesOf w) kind x y) (refused 5 (entriesRegion ∷ [])) w
+      → MakesReply w (newEntry (entriesOf w) kind x y) (refused 5 (entriesRegion ∷ [])) w
   make-full number room n r h =
       replied w (newEntry (entriesOf w) kind x y) _ (made-full w (newEntry (entriesOf w) kind x y) (omega (arith, new-length (entriesOf w) kind x y)))
 
@@ -54,14 +54,14 @@ module _ (w : List ℕ) (kind x y : ℕ) (good : T (wellFormed w)) where
     fits : length (newEntry (entriesOf w) kind x y .after) ≤ storeOf w .capacities .entries
     fits = omega (arith, new-length (entriesOf w) kind x y)
 
-    pub make-deep : spreadMost < spread → Replies w (newEntry (entriesOf w) kind x y) (refused 6 []) w
+    pub make-deep : spreadMost < spread → MakesReply w (newEntry (entriesOf w) kind x y) (refused 6 []) w
     unfolding newEntry
     make-deep d =
         replied w (newEntry (entriesOf w) kind x y) _ (made-deep w (newEntry (entriesOf w) kind x y) (formed-shown w good .within) fits
         (put-too-deep (entriesOf w) kind x y 0 0 (sound-table w good .store .shallow) ∙ lt-ltb spreadMost (spreadOf (entriesOf w) kind x y) (omega arith)))
 
     pub make-done : spread ≤ spreadMost → (v : List ℕ) → Shows v (entriesTo w (entriesOf w ++ (entryMade kind x y 0 0 spread ∷ [])))
-        → Replies w (newEntry (entriesOf w) kind x y) (done (number ∷ [])) v
+        → MakesReply w (newEntry (entriesOf w) kind x y) (done (number ∷ [])) v
     unfolding newEntry putEntry
     make-done d v shows =
         let m : Making = newEntry (entriesOf w) kind x y in

@@ -2,8 +2,8 @@
 use Rattle.image.proofs.Laying.{formed-laid}
 use Rattle.step.proofs.Functors.{functor-held, functor-full, functor-first, functor-second, functor-settle, functor-told}
 use borrow.Author.Needs.{needs}
-use Rattle.step.proofs.functor.Statement.{statement}
-use Rattle.step.proofs.functor.Tie as tie
+use Rattle.step.proofs.follow_functor.Statement.{statement}
+use Rattle.step.proofs.follow_functor.Tie as tie
 
 entries-count-requires : tie.Need-entries-count-requires
 entries-count-requires c κs =
@@ -52,8 +52,8 @@ returns-2 c =
     let p = c .before .before .before .before .before .before .before .before .before .before .before .before .before .before .before .before .before .before .pre in
     functor-told _ (c .before .before .before .before .before .before .before .before .before .before .before .before .before .before .before .before .before .before .args .sub) (c .before .before .before .before .before .before .before .before .before .before .before .before .before .before .before .before .before .before .args .sup) (c .before .before .before .before .before .before .before .before .before .before .before .before .before .before .before .before .before .before .args .f) (c .before .before .before .before .before .before .before .before .before .before .before .before .before .before .before .before .before .before .args .param) (c .before .before .before .before .before .before .before .before .before .before .before .before .before .before .before .before .before .before .args .body) (p .0) _ _ (c .before .before .before .before .before .before .before .before .before .before .before .before .before .before .before .entries-count .ensures) (c .before .before .before .before .before .before .before .before .before .before .before .before .before .entries-capacity .ensures) (c .before .before .before .before .before .before .before .before .before .before .before .before .if1 .left) _ (c .before .before .before .before .before .before .before .before .before .before .push-entry .ensures) _ (c .before .before .before .before .before .before .push-entry2 .ensures) _ _ (c .before .before .settle .ensures)
 
-pub functor-spec : {M : Type 1} → statement M
-functor-spec =
+pub follow-functor-spec : {M : Type 1} → statement M
+follow-functor-spec =
     tie.close
     (tie.spec
     entries-count-requires
