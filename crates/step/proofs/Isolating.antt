@@ -26,7 +26,7 @@ use Rattle.type_table.specs.declared.Negated.{Negated}
 use Rattle.type_table.specs.declared.Negated.the-variants as N
 use Rattle.type_table.proofs.Undoing.{seen-entries}
 use Rattle.type_table.proofs.Negating.{never}
-use Rattle.type_table.proofs.Takes.{negatable, words-back}
+use Rattle.type_table.proofs.Answers.{negatable, words-back}
 use Rattle.constrain.specs.declared.Next.the-variants.{Isolate}
 use Rattle.step.specs.Taken.{Taken, taken, outcomeFor}
 use Rattle.step.specs.Made.{TargetIn, settled}

@@ -64,12 +64,12 @@ module _ (w : List ℕ) (good : T (wellFormed w)) (more : ℕ) where
         (record { entries = k .entries; fields = k .fields; bounds = k .bounds; visited = omega (arith, one-more (visitedIn w) p); equals = k .equals }) h (s .shallow))
 
 -- what has room passed every test
-pub record HasRoom (u : Store) (n : ℕ) : Type 0 where
+pub record RegionsFit (u : Store) (n : ℕ) : Type 0 where
   pub bounds : length (u .bounds) ≤ u .capacities .bounds
   pub visited : length (u .visited) ≤ u .capacities .visited
   pub pending : n ≤ u .capacities .pending
 
-pub fits : (u : Store) (n : ℕ) → fitting u n ≡ enough → HasRoom u n
+pub fits : (u : Store) (n : ℕ) → fitting u n ≡ enough → RegionsFit u n
 unfolding fitting
 fits u n e =
     let c = u .capacities in
