@@ -14,11 +14,11 @@ use Rattle.model.specs.Rules.{mismatch, attrsets, functorRule, armOf, byArm, co
 use Rattle.laws.specs.Good.{entryGood, Good}
 use Rattle.laws.proofs.Tests.{nth, le-of}
 use Rattle.laws.proofs.Components.{x-of, y-of}
-use Rattle.constrain.specs.declared.Arm.{Arm}
-use Rattle.constrain.specs.declared.Arm.the-variants as A
+use Rattle.decision.specs.declared.Arm.{Arm}
+use Rattle.decision.specs.declared.Arm.the-variants as A
 use Rattle.constrain.specs.declared.Words.{Words}
 use Rattle.constrain.specs.declared.Next.{Next}
-use Rattle.constrain.specs.Decide.{Fits, armIn}
+use Rattle.decision.specs.Decide.{ArmFits, armIn}
 use Rattle.constrain.specs.Next.{Comes, wordsAt, lambdaOf}
 
 -- the words of entry n, which is concrete
@@ -58,17 +58,17 @@ pub record Decided (s : Store) (sub sup : ℕ) (v w : Words) (arm : Arm) : Type 
   pub sub-words : v ≡ wordsAt (entryAt (s .entries) sub)
   pub sup-words : w ≡ wordsAt (entryAt (s .entries) sup)
   pub same : armIn arm ≡ armOf (v .kind) (w .kind) (v .x) (w .x)
-  pub fits : Fits arm (v .kind) (w .kind) (v .x) (w .x)
+  pub fits : ArmFits arm (v .kind) (w .kind) (v .x) (w .x)
 
 module _ {s : Store} {sub sup : ℕ} {v w : Words} {arm : Arm} (d : Decided s sub sup v w arm) where
   pub neg-there : arm ≡ A.UnderNeg → w .x < length (s .entries)
-  neg-there q = let f : Fits A.UnderNeg (v .kind) (w .kind) (v .x) (w .x) = rw q at (d .fits) in neg-below s (d .good) sup (d .sup-there) w (d .sup-words) (f .0)
+  neg-there q = let f : ArmFits A.UnderNeg (v .kind) (w .kind) (v .x) (w .x) = rw q at (d .fits) in neg-below s (d .good) sup (d .sup-there) w (d .sup-words) (f .0)
 
   pub inter-there : arm ≡ A.SubInter → (v .x < length (s .entries)) × (v .y < length (s .entries))
-  inter-there q = let f : Fits A.SubInter (v .kind) (w .kind) (v .x) (w .x) = rw q at (d .fits) in inter-below s (d .good) sub (d .sub-there) v (d .sub-words) (f .0)
+  inter-there q = let f : ArmFits A.SubInter (v .kind) (w .kind) (v .x) (w .x) = rw q at (d .fits) in inter-below s (d .good) sub (d .sub-there) v (d .sub-words) (f .0)
 
   pub union-there : arm ≡ A.SupUnion → (w .x < length (s .entries)) × (w .y < length (s .entries))
-  union-there q = let f : Fits A.SupUnion (v .kind) (w .kind) (v .x) (w .x) = rw q at (d .fits) in union-below s (d .good) sup (d .sup-there) w (d .sup-words) (f .0)
+  union-there q = let f : ArmFits A.SupUnion (v .kind) (w .kind) (v .x) (w .x) = rw q at (d .fits) in union-below s (d .good) sup (d .sup-there) w (d .sup-words) (f .0)
 
   pub by-arm : {x : Arm} {r : Next} → arm ≡ x
       → Comes (graphOf s) (sub ⊑ sup) r (byArm (graphOf s) sub sup (entryAt (s .entries) sub) (entryAt (s .entries) sup) (armIn x))
@@ -86,7 +86,7 @@ module _ {s : Store} {sub sup : ℕ} {v w : Words} {arm : Arm} (d : Decided s su
       ≡ attrsets (graphOf s) (entryAt (s .entries) sub) (entryAt (s .entries) sup)
   unfolding isAt is
   attrsets-same q =
-      let f : Fits A.Attrsets (v .kind) (w .kind) (v .x) (w .x) = rw q at (d .fits) in
+      let f : ArmFits A.Attrsets (v .kind) (w .kind) (v .x) (w .x) = rw q at (d .fits) in
       let h : entryAt (s .entries) sub .kind ≡ attrset = rw (d .sub-words) at (f .0) in
       let k : entryAt (s .entries) sup .kind ≡ attrset = rw (d .sup-words) at (f .1) in
       rw (h, k)

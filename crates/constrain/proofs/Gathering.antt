@@ -23,18 +23,18 @@ use Rattle.model.specs.declared.Entry.the-variants as E
 use Rattle.model.proofs.Entry.{the-type}
 use Rattle.laws.specs.Good.{Good}
 use Rattle.image.specs.Records.{fieldAt}
-use Rattle.disjoint.specs.declared.Found.{Found}
-use Rattle.disjoint.specs.declared.Found.the-variants.{At, Nothing}
+use Rattle.disjoint.specs.declared.FieldFound.{FieldFound}
+use Rattle.disjoint.specs.declared.FieldFound.the-variants.{At, Nothing}
 use Rattle.disjoint.specs.Fields.{Inside, fieldsHeld, numberNamed}
 use Rattle.disjoint.proofs.Fields.{rest, next, none-left, whole}
 use Rattle.disjoint.proofs.Finding.{named-found, named-nothing}
 use Rattle.disjoint.proofs.Views.{attrsetOf, Reads, a-variable, a-primitive, a-list, a-lambda, an-attrset, a-named, a-neg, an-inter, a-union, reads, inside}
-use Rattle.constrain.specs.declared.Ask.{Ask}
-use Rattle.constrain.specs.declared.Ask.the-variants as A
+use Rattle.constrain.specs.declared.FieldAsk.{FieldAsk}
+use Rattle.constrain.specs.declared.FieldAsk.the-variants as A
 use Rattle.constrain.specs.declared.Next.{Next}
 use Rattle.constrain.specs.declared.Next.the-variants as N
 use Rattle.constrain.specs.declared.Pairs.the-variants.{Fields}
-use Rattle.constrain.specs.Fields.{askDynamic, askBy, askOf, asked, pairsAsked, dynamicPairs, bothDynamic, fieldPairs, missingOr, firstMissing, gatheredBy, gatheredIn}
+use Rattle.constrain.specs.Fields.{askDynamic, askBy, askOf, addAsked, pairsAsked, dynamicPairs, bothDynamic, fieldPairs, missingOr, firstMissing, gatheredBy, gatheredIn}
 use Rattle.constrain.specs.Next.{effectOf, Applicable, Comes}
 
 -- a field that no field of its name answers
@@ -52,7 +52,7 @@ module _ (d : Dynamic) (o : Bool) (f : Field) where
   ask-optional q p z = rw (q, p, ne-eqb _ _ z)
 
 -- the search by the name that was read
-pub named-by : (fs : List Field) (a : Attrset) {name n : ℕ} {r o : Found} → n ≡ name → r ≡ numberNamed fs (a .first) (a .count) n → r ≡ o
+pub named-by : (fs : List Field) (a : Attrset) {name n : ℕ} {r o : FieldFound} → n ≡ name → r ≡ numberNamed fs (a .first) (a .count) n → r ≡ o
     → numberNamed fs (a .first) (a .count) name ≡ o
 named-by fs a p q e = sym (rw p at q) ∙ e
 
@@ -70,7 +70,7 @@ module _ (fs : List Field) (a : Attrset) (h : Inside fs a) (f : Field) where
 -- the fields from j on, by what field j asks
 module _ (fs : List Field) (a : Attrset) (j e : ℕ) (h : j < e) (l : e ≤ length fs) where
   pub pairs-next : pairsAsked a (fieldsHeld fs a) (rest fs j e)
-      ≡ asked (askOf a (fieldsHeld fs a) (fieldAt fs j)) (fieldAt fs j) (pairsAsked a (fieldsHeld fs a) (rest fs (j + 1) e))
+      ≡ addAsked (askOf a (fieldsHeld fs a) (fieldAt fs j)) (fieldAt fs j) (pairsAsked a (fieldsHeld fs a) (rest fs (j + 1) e))
   unfolding pairsAsked
   pairs-next = rw (next fs j e h l)
 
@@ -134,7 +134,7 @@ module _ {fs : List Field} {a b : Attrset} {e j n : ℕ} (g : Going fs a b e j n
       rw (p, c)
 
 -- the model's gathering, by what each field asks
-abbrev byAsk : Ask → Field → Gathered → Gathered
+abbrev byAsk : FieldAsk → Field → Gathered → Gathered
 byAsk (A.Under x) f g = before (x ⊑ f .entry) g
 byAsk A.Nothing f g = g
 byAsk A.Missing f g = lacking (f .name)
@@ -159,7 +159,7 @@ abbrev told : Option ℕ → List Pair → Gathered
 told (some n) ps = lacking n
 told none ps = gathered ps
 
-told-by : (w : Ask) (f : Field) (m : Option ℕ) (qs last : List Pair) → byAsk w f (told m (qs ++ last)) ≡ told (missingOr w f m) (asked w f qs ++ last)
+told-by : (w : FieldAsk) (f : Field) (m : Option ℕ) (qs last : List Pair) → byAsk w f (told m (qs ++ last)) ≡ told (missingOr w f m) (addAsked w f qs ++ last)
 unfolding before
 told-by (A.Under x) f none qs last = refl
 told-by (A.Under x) f (some n) qs last = refl
@@ -259,19 +259,19 @@ module _ (s : Store) (good : Good s) (i : ℕ) (lt : i < length (s .entries)) wh
   attrset-inside q = rw (← attrset-read q .1) (inside s good i lt (attrset-read q .0))
 
 -- what two entries come to
-abbrev Told : Store → ℕ → ℕ → Next → Type 0
-Told s i j r = Comes (graphOf s) (i ⊑ j) r (cond (isAt (s .entries) attrset i && isAt (s .entries) attrset j) (attrsets (graphOf s) (entryAt (s .entries) i) (entryAt (s .entries) j)) mismatch)
+abbrev PairComes : Store → ℕ → ℕ → Next → Type 0
+PairComes s i j r = Comes (graphOf s) (i ⊑ j) r (cond (isAt (s .entries) attrset i && isAt (s .entries) attrset j) (attrsets (graphOf s) (entryAt (s .entries) i) (entryAt (s .entries) j)) mismatch)
 
 module _ (s : Store) (good : Good s) (i j : ℕ) (li : i < length (s .entries)) (lj : j < length (s .entries)) where
-  pub first-other : {o : EntryOut} → o ≡ readOut (entryAt (s .entries) i) → OneOf (0 ∷ 1 ∷ 2 ∷ 3 ∷ 5 ∷ 6 ∷ 7 ∷ 8 ∷ []) (tagOf the-type o) → Told s i j N.Mismatch
+  pub first-other : {o : EntryOut} → o ≡ readOut (entryAt (s .entries) i) → OneOf (0 ∷ 1 ∷ 2 ∷ 3 ∷ 5 ∷ 6 ∷ 7 ∷ 8 ∷ []) (tagOf the-type o) → PairComes s i j N.Mismatch
   first-other q h = record { means = rw (other-at s good i li q h); applies = tt }
 
   pub second-other : {a : Attrset} {o : EntryOut} → E.AttrSet a ≡ readOut (entryAt (s .entries) i)
-      → o ≡ readOut (entryAt (s .entries) j) → OneOf (0 ∷ 1 ∷ 2 ∷ 3 ∷ 5 ∷ 6 ∷ 7 ∷ 8 ∷ []) (tagOf the-type o) → Told s i j N.Mismatch
+      → o ≡ readOut (entryAt (s .entries) j) → OneOf (0 ∷ 1 ∷ 2 ∷ 3 ∷ 5 ∷ 6 ∷ 7 ∷ 8 ∷ []) (tagOf the-type o) → PairComes s i j N.Mismatch
   second-other p q h = record { means = rw (attrset-at s good i li p, other-at s good j lj q h); applies = tt }
 
   pub both-told : {a b : Attrset} → E.AttrSet a ≡ readOut (entryAt (s .entries) i) → E.AttrSet b ≡ readOut (entryAt (s .entries) j)
-      → {r : Next} → r ≡ gatheredIn (s .fields) a b → Told s i j r
+      → {r : Next} → r ≡ gatheredIn (s .fields) a b → PairComes s i j r
   unfolding gatheredIn
   both-told {a} {b} p q {r} h =
       let d = entryAt (s .entries) i in

@@ -11,33 +11,33 @@ use Rattle.model.specs.declared.Attrset.{Attrset}
 use Rattle.model.specs.declared.Dynamic.{Dynamic}
 use Rattle.model.specs.declared.Dynamic.the-variants.{Absent, Present}
 use Rattle.disjoint.specs.Fields.{fieldsHeld}
-use Rattle.constrain.specs.declared.Ask.{Ask}
-use Rattle.constrain.specs.declared.Ask.the-variants as A
+use Rattle.constrain.specs.declared.FieldAsk.{FieldAsk}
+use Rattle.constrain.specs.declared.FieldAsk.the-variants as A
 use Rattle.constrain.specs.declared.Next.{Next}
 use Rattle.constrain.specs.declared.Next.the-variants.{Missing, Follow}
 use Rattle.constrain.specs.declared.Pairs.the-variants.{Fields}
 
 -- "same field, a pair; else sub's dynamic type, a pair; else missing field if sub is closed and sup's field is not optional"
-abbrev pub askDynamic : Dynamic → Bool → Field → Ask
+abbrev pub askDynamic : Dynamic → Bool → Field → FieldAsk
 askDynamic (Present n) isOpen f = A.Under n
 askDynamic Absent isOpen f = cond (not isOpen && isZero (f .optional)) A.Missing A.Nothing
 
-abbrev pub askBy : Attrset → Field → Option Field → Ask
+abbrev pub askBy : Attrset → Field → Option Field → FieldAsk
 askBy a f (some g) = A.Under (g .entry)
 askBy a f none = askDynamic (a .dynamic) (a .is_open) f
 
-unfoldable pub askOf : Attrset → List Field → Field → Ask
+unfoldable pub askOf : Attrset → List Field → Field → FieldAsk
 askOf a have f = askBy a f (fieldNamed have (f .name))
 
 -- the pairs of some of sup's fields, whatever is missing
-abbrev pub asked : Ask → Field → List Pair → List Pair
-asked (A.Under x) f ps = (x ⊑ f .entry) ∷ ps
-asked A.Nothing f ps = ps
-asked A.Missing f ps = ps
+abbrev pub addAsked : FieldAsk → Field → List Pair → List Pair
+addAsked (A.Under x) f ps = (x ⊑ f .entry) ∷ ps
+addAsked A.Nothing f ps = ps
+addAsked A.Missing f ps = ps
 
 unfoldable pub pairsAsked : Attrset → List Field → List Field → List Pair
 pairsAsked a have [] = []
-pairsAsked a have (f ∷ fs) = asked (askOf a have f) f (pairsAsked a have fs)
+pairsAsked a have (f ∷ fs) = addAsked (askOf a have f) f (pairsAsked a have fs)
 
 -- "Then the pair of dynamic types if both have one."
 abbrev pub dynamicPairs : Dynamic → Dynamic → List Pair
@@ -52,7 +52,7 @@ unfoldable pub fieldPairs : List Field → Attrset → Attrset → List Pair
 fieldPairs fs a b = pairsAsked a (fieldsHeld fs a) (fieldsHeld fs b) ++ dynamicPairs (a .dynamic) (b .dynamic)
 
 -- the first that is missing
-abbrev pub missingOr : Ask → Field → Option ℕ → Option ℕ
+abbrev pub missingOr : FieldAsk → Field → Option ℕ → Option ℕ
 missingOr (A.Under x) f rest = rest
 missingOr A.Nothing f rest = rest
 missingOr A.Missing f rest = some (f .name)

@@ -1,6 +1,7 @@
 // What a pair (sub, sup) comes to, by the rules of document 01, in the Rust's shape and names. All read the image and write nothing:
 // crate `step` applies what is decided here.
-use disjoint::Found;
+use decision::Arm;
+use disjoint::FieldFound;
 use model::Attrset;
 use model::Dynamic;
 use model::Entry;
@@ -10,7 +11,7 @@ ghost use Prim.Native.Nat.{_≤_, _<_};
 ghost use lib.ListN.{length};
 ghost use Rattle.model.specs.Format.{variable, attrset};
 ghost use Rattle.model.specs.Table.{_⊑_, entryAt, isAt};
-ghost use Rattle.model.specs.Rules.{mismatch, chosen as chosenOf, isolate as isolateOf, leftInter, rightOpen, rightClosed, rightKind, rightUnion, functorRule, underNegation, attrsets, concrete, pairRule, armOf};
+ghost use Rattle.model.specs.Rules.{mismatch, chosen as chosenOf, isolate as isolateOf, leftInter, rightOpen, rightClosed, rightKind, rightUnion, functorRule, underNegation, attrsets, concrete, pairRule};
 ghost use Rattle.model.specs.Shapes.{functorOf};
 ghost use Rattle.laws.specs.Good.{Good};
 ghost use Rattle.image.specs.Laid.{Laid};
@@ -18,7 +19,6 @@ ghost use Rattle.image.specs.Shown.{storeOf, graphIn, entriesOf, fieldsIn};
 ghost use Rattle.image.specs.Records.{fieldAt};
 ghost use Rattle.disjoint.specs.Fields.{Inside, fieldsHeld};
 ghost use Rattle.constrain.specs.Fields.{askOf, askDynamic, bothDynamic, gatheredIn};
-ghost use Rattle.constrain.specs.Decide.{Fits, armIn};
 ghost use Rattle.constrain.specs.Next.{Comes, ComesUnder, ComesOf, wordsAt, lambdaOf};
 
 // The consequences of a pair, the first to be worked first.
@@ -46,24 +46,6 @@ pub enum Next {
     Lower,
 }
 
-// The rule that fits two concrete entries.
-pub enum Arm {
-    SubNamed,
-    SupNamed,
-    Lambdas,
-    Lists,
-    Attrsets,
-    Nothing,
-    Negs,
-    UnderNeg,
-    SupInter,
-    SubUnion,
-    SubInter,
-    SupUnion,
-    Functor,
-    Mismatch,
-}
-
 // The words of an entry that the rules read.
 pub struct Words {
     pub kind: u32,
@@ -72,57 +54,10 @@ pub struct Words {
 }
 
 // What a field of sup asks of sub: an entry under its own, nothing, or it is missing.
-pub enum Ask {
+pub enum FieldAsk {
     Under(u32),
     Nothing,
     Missing,
-}
-
-// The kinds of sub and sup, each ten times, so that every pattern is a range.
-struct Kinds(u32, u32);
-
-// The first that fits, by the kinds of sub and sup, and by p and q, their numbers if both are primitives.
-fn first_fit(sub: u32, sup: u32, p: u32, q: u32) -> Arm
-    requires { ⌜ (1 ≤ sub) × (sub ≤ 8) × (1 ≤ sup) × (sup ≤ 8) ⌝ }
-    ensures { λ r. ⌜ Fits r sub sup p q ⌝ }
-{
-    let kinds = Kinds(10 * sub, 10 * sup);
-    match kinds {
-        Kinds(50..=59, _) => Arm::SubNamed,
-        Kinds(_, 50..=59) => Arm::SupNamed,
-        Kinds(30..=39, 30..=39) => Arm::Lambdas,
-        Kinds(20..=29, 20..=29) => Arm::Lists,
-        Kinds(40..=49, 40..=49) => Arm::Attrsets,
-        Kinds(0..=19, 0..=19) => {
-            if p == q {
-                Arm::Nothing
-            } else if q == image::NUMBER {
-                match p {
-                    2..=3 => Arm::Nothing,
-                    _ => Arm::Mismatch,
-                }
-            } else {
-                Arm::Mismatch
-            }
-        }
-        Kinds(60..=69, 60..=69) => Arm::Negs,
-        Kinds(0..=69, 60..=69) => Arm::UnderNeg,
-        Kinds(_, 70..=79) => Arm::SupInter,
-        Kinds(80.., _) => Arm::SubUnion,
-        Kinds(70..=79, _) => Arm::SubInter,
-        Kinds(_, 80..) => Arm::SupUnion,
-        Kinds(40..=49, 30..=39) => Arm::Functor,
-        _ => Arm::Mismatch,
-    }
-}
-
-// The same, as the rules say it.
-fn decide(sub: u32, sup: u32, p: u32, q: u32) -> Arm
-    requires { ⌜ (1 ≤ sub) × (sub ≤ 8) × (1 ≤ sup) × (sup ≤ 8) ⌝ }
-    ensures { λ r. ⌜ armIn r ≡ armOf sub sup p q ⌝ }
-    ensures { λ r. ⌜ Fits r sub sup p q ⌝ }
-{
-    first_fit(sub, sup, p, q)
 }
 
 // Whether entry n is a variable.
@@ -147,26 +82,26 @@ fn words_of(image: &[u32], n: u32) -> Words
 }
 
 // What field record j asks of an attrset that has no field of its name.
-fn asks_dynamic(image: &[u32], a: Attrset, j: u32) -> Ask
+fn asks_dynamic(image: &[u32], a: Attrset, j: u32) -> FieldAsk
     requires { ⌜ Laid (now image) ⌝ }
     requires { ⌜ j < length (fieldsIn (now image)) ⌝ }
     ensures { λ r. ⌜ r ≡ askDynamic (a .dynamic) (a .is_open) (fieldAt (fieldsIn (now (image .entry))) j) ⌝ }
 {
     let dynamic = a.dynamic;
     if let Dynamic::Present(n) = dynamic {
-        return Ask::Under(n);
+        return FieldAsk::Under(n);
     }
     if a.is_open {
-        return Ask::Nothing;
+        return FieldAsk::Nothing;
     }
     if image::field_word(image, j, image::OPTIONAL_WORD) == 0 {
-        return Ask::Missing;
+        return FieldAsk::Missing;
     }
-    Ask::Nothing
+    FieldAsk::Nothing
 }
 
 // What field record j asks of the attrset a.
-pub fn asks(image: &[u32], a: Attrset, j: u32) -> Ask
+pub fn asks(image: &[u32], a: Attrset, j: u32) -> FieldAsk
     requires { ⌜ Laid (now image) ⌝ }
     requires { ⌜ Inside (fieldsIn (now image)) a ⌝ }
     requires { ⌜ j < length (fieldsIn (now image)) ⌝ }
@@ -175,8 +110,8 @@ pub fn asks(image: &[u32], a: Attrset, j: u32) -> Ask
     let name = image::field_word(image, j, image::NAME_WORD);
     let found = disjoint::field_named(image, a.first, a.count, name);
     match found {
-        Found::At(i) => Ask::Under(image::field_word(image, i, image::ENTRY_WORD)),
-        Found::Nothing => asks_dynamic(image, a, j),
+        FieldFound::At(i) => FieldAsk::Under(image::field_word(image, i, image::ENTRY_WORD)),
+        FieldFound::Nothing => asks_dynamic(image, a, j),
     }
 }
 
@@ -206,11 +141,11 @@ fn gather(image: &[u32], a: Attrset, b: Attrset) -> Next
     while j < end {
         let ask = asks(image, a, j);
         match ask {
-            Ask::Under(_) => {
+            FieldAsk::Under(_) => {
                 n += 1;
             }
-            Ask::Nothing => {}
-            Ask::Missing => {
+            FieldAsk::Nothing => {}
+            FieldAsk::Missing => {
                 return Next::Missing(image::field_word(image, j, image::NAME_WORD));
             }
         }
@@ -252,8 +187,8 @@ fn is_chosen(image: &[u32], a: u32, b: u32) -> bool
     if is_var(image, a) {
         return true;
     }
-    if disjoint::holds_variable(image, a) {
-        return !disjoint::holds_variable(image, b);
+    if disjoint::inter_contains_var(image, a) {
+        return !disjoint::inter_contains_var(image, b);
     }
     false
 }
@@ -266,7 +201,7 @@ fn isolate(image: &[u32], c: u32, d: u32, sup: u32) -> Next
     requires { ⌜ sup < length (entriesOf (now image)) ⌝ }
     ensures { λ r. ⌜ ComesUnder (graphIn (now (image .entry))) sup r (isolateOf (graphIn (now (image .entry))) c d sup) ⌝ }
 {
-    if disjoint::disjoint_from_sup(image, sup, d) {
+    if disjoint::is_disjoint_from_sup(image, d, sup) {
         return Next::Mismatch;
     }
     Next::Isolate {
@@ -304,7 +239,7 @@ fn rhs_one_variable(image: &[u32], sub: u32, c: u32, v: u32) -> Next
     requires { ⌜ c < length (entriesOf (now image)) ⌝ }
     ensures { λ r. ⌜ ComesOf (graphIn (now (image .entry))) sub r (rightOpen (graphIn (now (image .entry))) sub c v) ⌝ }
 {
-    if disjoint::compatible(image, sub, c) {
+    if disjoint::is_concrete_compatible(image, sub, c) {
         return Next::Follow(Pairs::One(sub, c));
     }
     Next::Follow(Pairs::One(sub, v))
@@ -349,13 +284,13 @@ fn rhs_concrete(image: &[u32], sub: u32, a: u32, b: u32) -> Next
     requires { ⌜ b < length (entriesOf (now image)) ⌝ }
     ensures { λ r. ⌜ ComesOf (graphIn (now (image .entry))) sub r (rightClosed (graphIn (now (image .entry))) sub a b) ⌝ }
 {
-    if disjoint::disjoint(image, sub, a) {
-        if disjoint::disjoint(image, sub, b) {
+    if disjoint::are_types_disjoint(image, sub, a) {
+        if disjoint::are_types_disjoint(image, sub, b) {
             return Next::Mismatch;
         }
         return Next::Follow(Pairs::One(sub, b));
     }
-    if disjoint::disjoint(image, sub, b) {
+    if disjoint::are_types_disjoint(image, sub, b) {
         return Next::Follow(Pairs::One(sub, a));
     }
     rhs_same_kind(image, sub, a, b)
@@ -391,12 +326,12 @@ fn constrain_functor(image: &[u32], sub: u32, param: u32, body: u32) -> Next
 {
     let found = disjoint::functor_of(image, sub);
     match found {
-        Found::At(i) => Next::Functor {
+        FieldFound::At(i) => Next::Functor {
             field: image::field_word(image, i, image::ENTRY_WORD),
             param,
             body,
         },
-        Found::Nothing => Next::Mismatch,
+        FieldFound::Nothing => Next::Mismatch,
     }
 }
 
@@ -408,7 +343,7 @@ fn constrain_under_neg(image: &[u32], sub: u32, n: u32) -> Next
     requires { ⌜ n < length (entriesOf (now image)) ⌝ }
     ensures { λ r. ⌜ ComesOf (graphIn (now (image .entry))) sub r (underNegation (graphIn (now (image .entry))) (entryAt (entriesOf (now (image .entry))) sub) n) ⌝ }
 {
-    if disjoint::disjoint(image, sub, n) {
+    if disjoint::are_types_disjoint(image, sub, n) {
         return Next::Follow(Pairs::Nothing);
     }
     Next::Mismatch
@@ -426,7 +361,7 @@ fn constrain_concrete(image: &[u32], sub: u32, sup: u32) -> Next
 {
     let a = words_of(image, sub);
     let b = words_of(image, sup);
-    let arm = decide(a.kind, b.kind, a.x, b.x);
+    let arm = decision::decide(a.kind, b.kind, a.x, b.x);
     match arm {
         Arm::SubNamed => Next::Follow(Pairs::One(a.x, sup)),
         Arm::SupNamed => Next::Follow(Pairs::One(sub, b.x)),

@@ -18,8 +18,8 @@ use Rattle.image.specs.Laid.{Laid}
 use Rattle.image.specs.Shown.{fieldsIn}
 use Rattle.image.specs.Records.{fieldAt}
 use Rattle.image.proofs.Reading.{fields-count}
-use Rattle.disjoint.specs.declared.Found.{Found}
-use Rattle.disjoint.specs.declared.Found.the-variants.{At, Nothing}
+use Rattle.disjoint.specs.declared.FieldFound.{FieldFound}
+use Rattle.disjoint.specs.declared.FieldFound.the-variants.{At, Nothing}
 use Rattle.disjoint.specs.Fields.{foundFrom, numberNamed, functorNumber, functorRecord, isFound, fieldFound, FoundInside}
 
 -- there are few of them
@@ -61,7 +61,7 @@ from-first fs i n name = ap (λ (l : List Field). foundFrom i l name) (whole fs 
 
 -- the number found is that of the model's field
 module _ (fs : List Field) where
-  pick : (b : Bool) (i : ℕ) (r : Found) (o : Option Field) → fieldFound fs r ≡ o → fieldFound fs (cond b (At i) r) ≡ cond b (some (fieldAt fs i)) o
+  pick : (b : Bool) (i : ℕ) (r : FieldFound) (o : Option Field) → fieldFound fs r ≡ o → fieldFound fs (cond b (At i) r) ≡ cond b (some (fieldAt fs i)) o
   pick true i r o h = refl
   pick false i r o h = h
 
@@ -72,7 +72,7 @@ module _ (fs : List Field) where
       rw (drop-cons fs i (record { name = 0; entry = 0; optional = 0 }) (omega arith))
       (pick (eqb (fieldAt fs i .name) name) i _ _ (found-is n (suc i) name (omega arith)))
 
-  pick-inside : (b : Bool) (i : ℕ) (r : Found) → i < length fs → FoundInside fs r → FoundInside fs (cond b (At i) r)
+  pick-inside : (b : Bool) (i : ℕ) (r : FieldFound) → i < length fs → FoundInside fs r → FoundInside fs (cond b (At i) r)
   pick-inside true i r h k = h
   pick-inside false i r h k = k
 
@@ -91,7 +91,7 @@ module _ (fs : List Field) where
   unfolding numberNamed
   named-inside first count name h = found-inside count first name h
 
-  found-some : (r : Found) → isSome (fieldFound fs r) ≡ isFound r
+  found-some : (r : FieldFound) → isSome (fieldFound fs r) ≡ isFound r
   unfolding isSome
   found-some (At i) = refl
   found-some Nothing = refl

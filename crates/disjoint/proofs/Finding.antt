@@ -9,7 +9,7 @@ use Rattle.model.specs.Table.{Field, Store, graphOf, entryAt}
 use Rattle.model.specs.Shapes.{fieldNamed, functorOf}
 use Rattle.laws.specs.Good.{Good}
 use Rattle.image.specs.Records.{fieldAt}
-use Rattle.disjoint.specs.declared.Found.the-variants.{At, Nothing}
+use Rattle.disjoint.specs.declared.FieldFound.the-variants.{At, Nothing}
 use Rattle.disjoint.specs.Fields.{numberNamed, functorRecord}
 use Rattle.disjoint.proofs.Fields.{named-is, named-inside, functor-is, functor-inside}
 use Rattle.disjoint.proofs.Views.{inside}

@@ -18,8 +18,8 @@ use Rattle.model.specs.declared.Entry.{Entry as EntryOut}
 use Rattle.model.specs.declared.Entry.the-variants as E
 use Rattle.model.proofs.Entry.{the-type}
 use Rattle.laws.specs.Good.{Good}
-use Rattle.disjoint.specs.declared.Found.{Found}
-use Rattle.disjoint.specs.declared.Found.the-variants.{Nothing}
+use Rattle.disjoint.specs.declared.FieldFound.{FieldFound}
+use Rattle.disjoint.specs.declared.FieldFound.the-variants.{Nothing}
 use Rattle.disjoint.specs.declared.Shape.{Shape}
 use Rattle.disjoint.specs.declared.Shape.the-variants as S
 use Rattle.disjoint.specs.Fields.{Inside, fieldsHeld, numberNamed, functorNumber, functorRecord, isFound}
@@ -50,7 +50,7 @@ unfolding closedLacksIn
 shut-lacks fs a b q = ap (λ (o : Bool). not o && lacksSome fs a b) (sym q)
 
 -- the functor's record, of an entry that reads out so
-abbrev pub functorBy : Graph → EntryOut → Found
+abbrev pub functorBy : Graph → EntryOut → FieldFound
 functorBy g (E.Variable l) = Nothing
 functorBy g (E.Primitive p) = Nothing
 functorBy g (E.List x) = Nothing

@@ -16,7 +16,7 @@ ghost use Rattle.disjoint.specs.Fields.{Inside, fieldsHeld, numberNamed,
 ghost use Rattle.disjoint.specs.Shapes.{shapeOf, ShapeInside, lacksSome, closedLacksIn, attrsetsDisjointIn, callable, shapesDisjoint};
 
 // A field record by its number, if there is one.
-pub enum Found {
+pub enum FieldFound {
     At(u32),
     Nothing,
 }
@@ -32,17 +32,17 @@ pub enum Shape {
 }
 
 // Whether there is one.
-fn is_found(f: Found) -> bool
+fn is_found(f: FieldFound) -> bool
     ensures { λ r. ⌜ r ≡ isFound f ⌝ }
 {
     match f {
-        Found::At(_) => true,
-        Found::Nothing => false,
+        FieldFound::At(_) => true,
+        FieldFound::Nothing => false,
     }
 }
 
 // The record of the field with that name, among the records first to first + count - 1.
-pub fn field_named(image: &[u32], first: u32, count: u32, name: u32) -> Found
+pub fn field_named(image: &[u32], first: u32, count: u32, name: u32) -> FieldFound
     requires { ⌜ Laid (now image) ⌝ }
     requires { ⌜ first + count ≤ length (fieldsIn (now image)) ⌝ }
     ensures { λ r. ⌜ r ≡ numberNamed (fieldsIn (now (image .entry))) first count name ⌝ }
@@ -51,28 +51,28 @@ pub fn field_named(image: &[u32], first: u32, count: u32, name: u32) -> Found
     let mut i = first;
     while i < end {
         if image::field_word(image, i, image::NAME_WORD) == name {
-            return Found::At(i);
+            return FieldFound::At(i);
         }
         i += 1;
     }
-    Found::Nothing
+    FieldFound::Nothing
 }
 
 // The record of the field `__functor` among these.
-fn functor_among(image: &[u32], first: u32, count: u32) -> Found
+fn functor_among(image: &[u32], first: u32, count: u32) -> FieldFound
     requires { ⌜ Laid (now image) ⌝ }
     requires { ⌜ first + count ≤ length (fieldsIn (now image)) ⌝ }
     ensures { λ r. ⌜ r ≡ functorNumber (fieldsIn (now (image .entry))) first count (storeOf (now (image .entry)) .functor) ⌝ }
 {
     let word = image::functor(image);
     if word == 0 {
-        return Found::Nothing;
+        return FieldFound::Nothing;
     }
     field_named(image, first, count, word - 1)
 }
 
 // The record of the field `__functor` of entry n, if it is an attrset that has one.
-pub fn functor_of(image: &[u32], n: u32) -> Found
+pub fn functor_of(image: &[u32], n: u32) -> FieldFound
     requires { ⌜ Laid (now image) ⌝ }
     requires { ⌜ Good (storeOf (now image)) ⌝ }
     requires { ⌜ n < length (entriesOf (now image)) ⌝ }
@@ -80,7 +80,7 @@ pub fn functor_of(image: &[u32], n: u32) -> Found
 {
     let e = image::entry(image, n);
     let Entry::AttrSet(a) = e else {
-        return Found::Nothing;
+        return FieldFound::Nothing;
     };
     functor_among(image, a.first, a.count)
 }
@@ -246,7 +246,7 @@ fn are_shapes_disjoint(image: &[u32], a: Shape, b: Shape) -> bool
 }
 
 // Whether entries a and b share no value.
-pub fn disjoint(image: &[u32], a: u32, b: u32) -> bool
+pub fn are_types_disjoint(image: &[u32], a: u32, b: u32) -> bool
     requires { ⌜ Laid (now image) ⌝ }
     requires { ⌜ Good (storeOf (now image)) ⌝ }
     requires { ⌜ a < length (entriesOf (now image)) ⌝ }
@@ -258,30 +258,30 @@ pub fn disjoint(image: &[u32], a: u32, b: u32) -> bool
     are_shapes_disjoint(image, sub, sup)
 }
 
-// Whether entry a could be under entry b: it has the same constructor (so Int under Number), or b is named, or b is a
-// lambda and a has a field `__functor`.
-pub fn compatible(image: &[u32], a: u32, b: u32) -> bool
+// Whether entry sub could be under entry target: it has the same constructor (so Int under Number), or target is named, or
+// target is a lambda and sub has a field `__functor`.
+pub fn is_concrete_compatible(image: &[u32], sub: u32, target: u32) -> bool
     requires { ⌜ Laid (now image) ⌝ }
     requires { ⌜ Good (storeOf (now image)) ⌝ }
-    requires { ⌜ a < length (entriesOf (now image)) ⌝ }
-    requires { ⌜ b < length (entriesOf (now image)) ⌝ }
-    ensures { λ r. ⌜ r ≡ couldBeUnder (graphIn (now (image .entry))) (entryAt (entriesOf (now (image .entry))) a) (entryAt (entriesOf (now (image .entry))) b) ⌝ }
+    requires { ⌜ sub < length (entriesOf (now image)) ⌝ }
+    requires { ⌜ target < length (entriesOf (now image)) ⌝ }
+    ensures { λ r. ⌜ r ≡ couldBeUnder (graphIn (now (image .entry))) (entryAt (entriesOf (now (image .entry))) sub) (entryAt (entriesOf (now (image .entry))) target) ⌝ }
 {
-    let target = image::entry_word(image, b, image::KIND_WORD);
-    if image::entry_word(image, a, image::KIND_WORD) == target {
+    let kind = image::entry_word(image, target, image::KIND_WORD);
+    if image::entry_word(image, sub, image::KIND_WORD) == kind {
         return true;
     }
-    if target == image::NAMED {
+    if kind == image::NAMED {
         return true;
     }
-    if target == image::LAMBDA {
-        return has_functor(image, a);
+    if kind == image::LAMBDA {
+        return has_functor(image, sub);
     }
     false
 }
 
 // Whether entry n is a variable, or leads to one through inter and named.
-pub fn holds_variable(image: &[u32], n: u32) -> bool
+pub fn inter_contains_var(image: &[u32], n: u32) -> bool
     requires { ⌜ Laid (now image) ⌝ }
     requires { ⌜ Good (storeOf (now image)) ⌝ }
     requires { ⌜ n < length (entriesOf (now image)) ⌝ }
@@ -291,58 +291,58 @@ pub fn holds_variable(image: &[u32], n: u32) -> bool
     match e {
         Entry::Variable { level: _ } => true,
         Entry::Inter(x, y) => {
-            if holds_variable(image, x) {
+            if inter_contains_var(image, x) {
                 true
             } else {
-                holds_variable(image, y)
+                inter_contains_var(image, y)
             }
         }
-        Entry::Named { inner, label: _ } => holds_variable(image, inner),
+        Entry::Named { inner, label: _ } => inter_contains_var(image, inner),
         _ => false,
     }
 }
 
-// Whether m is entry n itself, or a member of it through unions and named.
-pub fn union_member(image: &[u32], m: u32, n: u32) -> bool
+// Whether target is entry n itself, or a member of it through unions and named.
+pub fn union_contains_member(image: &[u32], n: u32, target: u32) -> bool
     requires { ⌜ Laid (now image) ⌝ }
     requires { ⌜ Good (storeOf (now image)) ⌝ }
     requires { ⌜ n < length (entriesOf (now image)) ⌝ }
-    ensures { λ r. ⌜ r ≡ unionMember (entriesOf (now (image .entry))) m n ⌝ }
+    ensures { λ r. ⌜ r ≡ unionMember (entriesOf (now (image .entry))) target n ⌝ }
 {
-    if n == m {
+    if n == target {
         return true;
     }
     let e = image::entry(image, n);
     match e {
         Entry::Union(x, y) => {
-            if union_member(image, m, x) {
+            if union_contains_member(image, x, target) {
                 true
             } else {
-                union_member(image, m, y)
+                union_contains_member(image, y, target)
             }
         }
-        Entry::Named { inner, label: _ } => union_member(image, m, inner),
+        Entry::Named { inner, label: _ } => union_contains_member(image, inner, target),
         _ => false,
     }
 }
 
 // Whether entry n, or a member of it through inter, is disjoint from entry sup.
-pub fn disjoint_from_sup(image: &[u32], sup: u32, n: u32) -> bool
+pub fn is_disjoint_from_sup(image: &[u32], n: u32, sup: u32) -> bool
     requires { ⌜ Laid (now image) ⌝ }
     requires { ⌜ Good (storeOf (now image)) ⌝ }
-    requires { ⌜ sup < length (entriesOf (now image)) ⌝ }
     requires { ⌜ n < length (entriesOf (now image)) ⌝ }
+    requires { ⌜ sup < length (entriesOf (now image)) ⌝ }
     ensures { λ r. ⌜ r ≡ disjointFromSup (graphIn (now (image .entry))) (entryAt (entriesOf (now (image .entry))) sup) n ⌝ }
 {
     let e = image::entry(image, n);
     match e {
         Entry::Inter(x, y) => {
-            if disjoint_from_sup(image, sup, x) {
+            if is_disjoint_from_sup(image, x, sup) {
                 true
             } else {
-                disjoint_from_sup(image, sup, y)
+                is_disjoint_from_sup(image, y, sup)
             }
         }
-        _ => disjoint(image, n, sup),
+        _ => are_types_disjoint(image, n, sup),
     }
 }

@@ -13,7 +13,7 @@ use borrow.Author.Tests.{ltb-true, ltb-false, lt-ltb, le-ltb, lt-leb, eqb-true, 
 use Rattle.model.specs.Lists.{allOf}
 use Rattle.model.specs.Told.{done, toldRefusal}
 use Rattle.model.specs.declared.Refusal.the-variants.{BadNumber, BadNames}
-use Rattle.names.specs.Names.{u16At, nameCount, nameOffset, bytesAt, nameOf, allBelow, before, same, after, compareNames, ascendsAt, tests, namesRight, nameCall, checkNames, checkName, countNames, compareAt, firstBelow, hasBytes, numberOf, findName, showName}
+use Rattle.names.specs.Names.{u16At, nameCount, nameOffset, bytesAt, nameOf, allBelow, before, same, after, compareNames, ascendsAt, tests, namesRight, nameCall, checkNames, checkName, countNames, compareAt, firstBelow, hasBytes, nameNumber, findName, showName}
 use Rattle.names.proofs.All.{all-at, all-of-at, first-hit, first-nowhere, first-found}
 
 -- ---- how names compare
@@ -166,7 +166,7 @@ module _ (bs : List ℕ) (right : namesRight bs ≡ true) where
 
   -- ---- what find answers
 
-  find-tells : (name : List ℕ) → findName bs name ≡ done (numberOf bs name)
+  find-tells : (name : List ℕ) → findName bs name ≡ done (nameNumber bs name)
   unfolding findName nameCall allOf
   find-tells name = rw right
 
@@ -189,7 +189,7 @@ module _ (bs : List ℕ) (right : namesRight bs ≡ true) where
   -- what is found is a name with these bytes
   pub found-holds : (name : List ℕ) (n : ℕ) → findName bs name ≡ done (n ∷ []) → (n < nameCount bs) × (nameOf bs n ≡ name)
   found-holds name n e =
-      let both : done (numberOf bs name) ≡ done (n ∷ []) = sym (find-tells name) ∙ e in
+      let both : done (nameNumber bs name) ≡ done (n ∷ []) = sym (find-tells name) ∙ e in
       let first = first-found (hasBytes bs name) (nameCount bs) n (cc) in
       (first .0, same-equal (nameOf bs n) name (eqb-true _ _ (first .1)))
 

@@ -13,7 +13,7 @@ use Rattle.model.specs.Told.{Told, done, toldRefusal}
 use Rattle.model.specs.declared.Refusal.{Refusal}
 use Rattle.model.specs.declared.Refusal.the-variants.{BadNumber, BadNames}
 use Rattle.names.specs.Names.{nameCount, nameAt, nameOf, namesRight, nameCall, checkName, showName, shownAt, placeName}
-use Rattle.names.proofs.Laying.{right-laid}
+use Rattle.names.proofs.NamesLaying.{right-laid}
 use Rattle.names.proofs.OneToOne.{done-refused}
 use Rattle.names.proofs.Calling.{Named, named, byTests, both-true}
 

@@ -1,3 +1,3 @@
 pub mod Names
 pub mod Answers
-pub mod Laid
+pub mod NamesLaid

@@ -130,11 +130,11 @@ abbrev pub hasBytes : List ℕ → List ℕ → ℕ → Bool
 hasBytes bs name i = eqb (compareNames (nameOf bs i) name) same
 
 -- the number of the name that has these bytes
-abbrev pub numberOf : List ℕ → List ℕ → List ℕ
-numberOf bs name = firstBelow (hasBytes bs name) (nameCount bs)
+abbrev pub nameNumber : List ℕ → List ℕ → List ℕ
+nameNumber bs name = firstBelow (hasBytes bs name) (nameCount bs)
 
 unfoldable pub findName : List ℕ → List ℕ → Told
-findName bs name = nameCall bs [] (done (numberOf bs name))
+findName bs name = nameCall bs [] (done (nameNumber bs name))
 
 -- "A name is shown as the part of the lent list that holds it; if refused, as the empty part, and a check call tells why."
 abbrev pub accepted : Told → Bool

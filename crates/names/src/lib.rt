@@ -6,9 +6,9 @@ ghost use mathlib.Core.Path.{_≡_};
 ghost use Prim.Native.Nat.{_+_, _*_, _<_, _≤_};
 ghost use lib.ListN.{length};
 ghost use Rattle.model.specs.Told.{done, toldReply};
-ghost use Rattle.names.specs.Names.{u16At, nameCount, nameOffset, bytesAt, nameAt, headerWhole, firstZero, noneFalls, lastRight, fewNames, noneLong, ascendsAt, ascending, hasBytes, compareNames, nameOf, numberOf, namesRight, checkNames, checkName, countNames, compareAt, findName, showName, shownAt, placeName};
+ghost use Rattle.names.specs.Names.{u16At, nameCount, nameOffset, bytesAt, nameAt, headerWhole, firstZero, noneFalls, lastRight, fewNames, noneLong, ascendsAt, ascending, hasBytes, compareNames, nameOf, nameNumber, namesRight, checkNames, checkName, countNames, compareAt, findName, showName, shownAt, placeName};
 ghost use Rattle.names.specs.Answers.{toldCounted, toldOrder, toldCompared, toldFound, toldPlaced};
-ghost use Rattle.names.specs.Laid.{Laid};
+ghost use Rattle.names.specs.NamesLaid.{NamesLaid};
 
 // A list has at most so many names.
 const NAMES_MOST: usize = 4096;
@@ -190,7 +190,7 @@ pub fn compare_parts(a: &[u8], b: &[u8]) -> Order
 
 // How names i and j compare: the comparison receives their parts of the list.
 fn compare_names(list: &[u8], i: usize, j: usize) -> Order
-    requires { ⌜ Laid (now list) ⌝ }
+    requires { ⌜ NamesLaid (now list) ⌝ }
     requires { ⌜ (i < nameCount (now list)) × (j < nameCount (now list)) ⌝ }
     ensures { λ r. ⌜ toldOrder r ≡ compareNames (nameOf (now (list .entry)) i) (nameOf (now (list .entry)) j) ⌝ }
 {
@@ -203,7 +203,7 @@ fn compare_names(list: &[u8], i: usize, j: usize) -> Order
 
 // Whether name i comes before the next.
 fn ascends_at(list: &[u8], i: usize) -> bool
-    requires { ⌜ Laid (now list) ⌝ }
+    requires { ⌜ NamesLaid (now list) ⌝ }
     requires { ⌜ i + 1 < nameCount (now list) ⌝ }
     ensures { λ r. ⌜ r ≡ ascendsAt (now (list .entry)) i ⌝ }
 {
@@ -216,7 +216,7 @@ fn ascends_at(list: &[u8], i: usize) -> bool
 
 // Whether each name comes before the next.
 fn ascending(list: &[u8]) -> bool
-    requires { ⌜ Laid (now list) ⌝ }
+    requires { ⌜ NamesLaid (now list) ⌝ }
     ensures { λ r. ⌜ r ≡ ascending (now (list .entry)) ⌝ }
 {
     let count = count_word(list);
@@ -257,7 +257,7 @@ fn right(list: &[u8]) -> bool
 
 // Whether name i has these bytes.
 fn has_bytes(list: &[u8], bytes: &[u8], i: usize) -> bool
-    requires { ⌜ Laid (now list) ⌝ }
+    requires { ⌜ NamesLaid (now list) ⌝ }
     requires { ⌜ i < nameCount (now list) ⌝ }
     ensures { λ r. ⌜ r ≡ hasBytes (now (list .entry)) (now (bytes .entry)) i ⌝ }
 {
@@ -272,8 +272,8 @@ fn has_bytes(list: &[u8], bytes: &[u8], i: usize) -> bool
 
 // The number of the name that has these bytes, in a list that is right.
 fn number_of(list: &[u8], bytes: &[u8]) -> Found
-    requires { ⌜ Laid (now list) ⌝ }
-    ensures { λ r. ⌜ toldFound r ≡ done (numberOf (now (list .entry)) (now (bytes .entry))) ⌝ }
+    requires { ⌜ NamesLaid (now list) ⌝ }
+    ensures { λ r. ⌜ toldFound r ≡ done (nameNumber (now (list .entry)) (now (bytes .entry))) ⌝ }
 {
     let count = count_word(list);
     let mut i = 0;

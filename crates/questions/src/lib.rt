@@ -103,7 +103,7 @@ fn put_pairs(image: &mut [u32], q: Question)
         return;
     }
     image::put_asked(image, q.right, q.left);
-    image::put_asked(image, q.left, q.right);
+    image::put_asked(image, q.left, q.right); // worked first
 }
 
 // Asks a question.
@@ -119,7 +119,7 @@ pub fn ask(image: &mut [u32], q: Question) -> Reply
     record_equal(image, q);
     put_pairs(image, q);
     image::open_question(image);
-    Reply::Done
+    Reply::Done // the question is asked
 }
 
 // Works a question, at most so many steps.

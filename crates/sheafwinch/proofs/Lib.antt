@@ -1,4 +1,2 @@
-pub mod Turning
-pub mod Attrsets
 pub mod Settled
 pub mod Contracts

@@ -30,7 +30,7 @@ use Rattle.step.specs.Taken.{beforeLast, lastPair, outcomeFor}
 use Rattle.step.specs.declared.Step.{Step}
 use Rattle.step.specs.declared.Step.the-variants.{Went}
 use Rattle.step.proofs.Rooms.{before-length}
-use Rattle.step.proofs.Taking.{Answers, went}
+use Rattle.step.proofs.Taking.{Takes, went}
 
 module _ (p : Pair) (s : Store) where
   -- "Equal numbers: nothing. Pair visited: nothing."
@@ -50,31 +50,31 @@ module _ (p : Pair) (s : Store) where
 
 -- the outcome, case by case
 module _ (w : List ℕ) (p : Pair) (next : Next) (r : Step) (v : List ℕ) where
-  pub applied-as : (x : Next) → next ≡ x → Answers w (outcomeFor (storeOf w) p x) r v → Answers w (outcomeFor (storeOf w) p next) r v
-  applied-as x e = subst (λ (y : Next). Answers w (outcomeFor (storeOf w) p y) r v) (sym e)
+  pub applied-as : (x : Next) → next ≡ x → Takes w (outcomeFor (storeOf w) p x) r v → Takes w (outcomeFor (storeOf w) p next) r v
+  applied-as x e = subst (λ (y : Next). Takes w (outcomeFor (storeOf w) p y) r v) (sym e)
 
-  pub applied-mismatch : next ≡ N.Mismatch → Answers w (failing (visit p (storeOf w)) (F.Mismatch (p .sub) (p .sup))) r v → Answers w (outcomeFor (storeOf w) p next) r v
+  pub applied-mismatch : next ≡ N.Mismatch → Takes w (failing (visit p (storeOf w)) (F.Mismatch (p .sub) (p .sup))) r v → Takes w (outcomeFor (storeOf w) p next) r v
   unfolding outcomeFor outcomeOf
   applied-mismatch e k = applied-as N.Mismatch e k
 
-  pub applied-missing : (name : ℕ) → next ≡ N.Missing name → Answers w (failing (visit p (storeOf w)) (F.MissingField (p .sub) (p .sup) name)) r v
-      → Answers w (outcomeFor (storeOf w) p next) r v
+  pub applied-missing : (name : ℕ) → next ≡ N.Missing name → Takes w (failing (visit p (storeOf w)) (F.MissingField (p .sub) (p .sup) name)) r v
+      → Takes w (outcomeFor (storeOf w) p next) r v
   unfolding outcomeFor outcomeOf
   applied-missing name e k = applied-as (N.Missing name) e k
 
-  pub applied-follow : (ps : Pairs) → next ≡ N.Follow ps → Answers w (goes (visit p (storeOf w)) (pairsIn (storeOf w .fields) ps)) r v
-      → Answers w (outcomeFor (storeOf w) p next) r v
+  pub applied-follow : (ps : Pairs) → next ≡ N.Follow ps → Takes w (goes (visit p (storeOf w)) (pairsIn (storeOf w .fields) ps)) r v
+      → Takes w (outcomeFor (storeOf w) p next) r v
   unfolding outcomeFor outcomeOf withGraph visit withVisited
   applied-follow ps e k = applied-as (N.Follow ps) e k
 
   -- a bound: on the upper side of sub, or the lower side of sup
-  pub applied-upper : next ≡ N.Upper → Answers w (outcomeOf (visit p (storeOf w)) p (joinBounds (graphIn w) (p .sub) upper (p .sup))) r v
-      → Answers w (outcomeFor (storeOf w) p next) r v
+  pub applied-upper : next ≡ N.Upper → Takes w (outcomeOf (visit p (storeOf w)) p (joinBounds (graphIn w) (p .sub) upper (p .sup))) r v
+      → Takes w (outcomeFor (storeOf w) p next) r v
   unfolding outcomeFor
   applied-upper e k = applied-as N.Upper e k
 
-  pub applied-lower : next ≡ N.Lower → Answers w (outcomeOf (visit p (storeOf w)) p (joinBounds (graphIn w) (p .sup) lower (p .sub))) r v
-      → Answers w (outcomeFor (storeOf w) p next) r v
+  pub applied-lower : next ≡ N.Lower → Takes w (outcomeOf (visit p (storeOf w)) p (joinBounds (graphIn w) (p .sup) lower (p .sub))) r v
+      → Takes w (outcomeFor (storeOf w) p next) r v
   unfolding outcomeFor
   applied-lower e k = applied-as N.Lower e k
 
@@ -102,10 +102,10 @@ module _ (w : List ℕ) (h : T (wellFormed w)) (some : 0 < length (pendingIn w))
       (lt-of sub (length (entriesOf w)) (first (isEntry (entriesOf w) sub) (isEntry (entriesOf w) sup) k), lt-of sup (length (entriesOf w)) (second (isEntry (entriesOf w) sub) (isEntry (entriesOf w) sup) k))
 
   -- the rule at the last pair
-  at-last : {r : Step} {v : List ℕ} (o : Outcome Store Pair Failure) → rule (storeOf w) (sub ⊑ sup) ≡ o → Answers w o r v → Answers w (rule (storeOf w) (lastPair w)) r v
-  at-last {r} {v} o e = subst (λ (x : Outcome Store Pair Failure). Answers w x r v) (sym (ap (rule (storeOf w)) last-is ∙ e))
+  at-last : {r : Step} {v : List ℕ} (o : Outcome Store Pair Failure) → rule (storeOf w) (sub ⊑ sup) ≡ o → Takes w o r v → Takes w (rule (storeOf w) (lastPair w)) r v
+  at-last {r} {v} o e = subst (λ (x : Outcome Store Pair Failure). Takes w x r v) (sym (ap (rule (storeOf w)) last-is ∙ e))
 
-  taken-off : (v : List ℕ) → Shows v (pendingTo w (take (length (pendingIn w) - 1) (pendingIn w))) → Answers w (goes (storeOf w) []) Went v
+  taken-off : (v : List ℕ) → Shows v (pendingTo w (take (length (pendingIn w) - 1) (pendingIn w))) → Takes w (goes (storeOf w) []) Went v
   unfolding roomFor
   taken-off v s =
       let n : length (beforeLast w) + 0 ≤ storeOf w .capacities .pending = omega (arith, before-length w, sound .pending .held) in
@@ -113,13 +113,13 @@ module _ (w : List ℕ) (h : T (wellFormed w)) (some : 0 < length (pendingIn w))
       went w (storeOf w) v [] e (subst (λ (l : List Pair). Shows v (tableOf (storeOf w) l)) (sym (append-nil (beforeLast w))) s)
 
   module _ (v : List ℕ) (s : Shows v (pendingTo w (take (length (pendingIn w) - 1) (pendingIn w)))) where
-    pub step-equal : sub ≡ sup → Answers w (rule (storeOf w) (lastPair w)) Went v
+    pub step-equal : sub ≡ sup → Takes w (rule (storeOf w) (lastPair w)) Went v
     step-equal e = at-last (goes (storeOf w) []) (rule-equal (sub ⊑ sup) (storeOf w) e) (taken-off v s)
 
-    pub step-visited : isVisited (storeOf w) (sub ⊑ sup) ≡ true → Answers w (rule (storeOf w) (lastPair w)) Went v
+    pub step-visited : isVisited (storeOf w) (sub ⊑ sup) ≡ true → Takes w (rule (storeOf w) (lastPair w)) Went v
     step-visited e = at-last (goes (storeOf w) []) (rule-visited (sub ⊑ sup) (storeOf w) e) (taken-off v s)
 
   pub step-applied : (next : Next) (r : Step) (v : List ℕ) → (sub ≡ sup → ⊥) → isVisited (storeOf w) (sub ⊑ sup) ≡ false
-      → Comes (graphIn w) (sub ⊑ sup) next (pairRule (graphIn w) sub sup) → Answers w (outcomeFor (storeOf w) (sub ⊑ sup) next) r v
-      → Answers w (rule (storeOf w) (lastPair w)) r v
+      → Comes (graphIn w) (sub ⊑ sup) next (pairRule (graphIn w) sub sup) → Takes w (outcomeFor (storeOf w) (sub ⊑ sup) next) r v
+      → Takes w (rule (storeOf w) (lastPair w)) r v
   step-applied next r v n e c k = at-last (outcomeFor (storeOf w) (sub ⊑ sup) next) (rule-comes (sub ⊑ sup) (storeOf w) next n e (c .means)) k

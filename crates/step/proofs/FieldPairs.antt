@@ -17,10 +17,10 @@ use Rattle.image.proofs.Laying.{seen-as, shown-as}
 use Rattle.image.proofs.Pending.{same-size-as}
 use Rattle.disjoint.specs.Fields.{Inside, fieldsHeld}
 use Rattle.disjoint.proofs.Fields.{rest, none-left, whole}
-use Rattle.constrain.specs.declared.Ask.{Ask}
-use Rattle.constrain.specs.declared.Ask.the-variants as A
-use Rattle.constrain.proofs.Ask.{the-type}
-use Rattle.constrain.specs.Fields.{askOf, asked, pairsAsked, dynamicPairs, fieldPairs}
+use Rattle.constrain.specs.declared.FieldAsk.{FieldAsk}
+use Rattle.constrain.specs.declared.FieldAsk.the-variants as A
+use Rattle.constrain.proofs.FieldAsk.{the-type}
+use Rattle.constrain.specs.Fields.{askOf, addAsked, pairsAsked, dynamicPairs, fieldPairs}
 use Rattle.constrain.proofs.Gathering.{pairs-next}
 use Rattle.step.specs.Put.{fieldPair}
 use Rattle.step.specs.Taken.{Midway}
@@ -47,12 +47,12 @@ module _ (fs : List Field) (a : Attrset) (j : ℕ) where
   pub field-asked : {x e : ℕ} → askOf a (fieldsHeld fs a) (fieldAt fs j) ≡ A.Under x → e ≡ fieldAt fs j .entry → fieldPair fs a j ≡ (x ⊑ e) ∷ []
   field-asked {x} {e} q h = field-under q ∙ ap (λ (y : ℕ). (x ⊑ y) ∷ []) (sym h)
 
-  not-under : (o : Ask) → OneOf (1 ∷ 2 ∷ []) (tagOf the-type o) → asked o (fieldAt fs j) [] ≡ []
+  not-under : (o : FieldAsk) → OneOf (1 ∷ 2 ∷ []) (tagOf the-type o) → addAsked o (fieldAt fs j) [] ≡ []
   not-under (A.Under x) h = absurd (miss (1 ∷ 2 ∷ []) 0 tt h)
   not-under A.Nothing h = refl
   not-under A.Missing h = refl
 
-  pub field-free : {o : Ask} → o ≡ askOf a (fieldsHeld fs a) (fieldAt fs j) → OneOf (1 ∷ 2 ∷ []) (tagOf the-type o) → fieldPair fs a j ≡ []
+  pub field-free : {o : FieldAsk} → o ≡ askOf a (fieldsHeld fs a) (fieldAt fs j) → OneOf (1 ∷ 2 ∷ []) (tagOf the-type o) → fieldPair fs a j ≡ []
   field-free {o} q h = rw (← q) (not-under o h)
 
 -- two dynamic types
@@ -81,12 +81,12 @@ module _ (fs : List Field) (a b : Attrset) where
   abbrev pub pairsFrom : ℕ → List Pair
   pairsFrom j = pairsAsked a (fieldsHeld fs a) (rest fs j (b .first + b .count))
 
-  asked-last : (o : Ask) (f : Field) (ps : List Pair) → reverse (asked o f ps) ≡ reverse ps ++ asked o f []
+  asked-last : (o : FieldAsk) (f : Field) (ps : List Pair) → reverse (addAsked o f ps) ≡ reverse ps ++ addAsked o f []
   asked-last (A.Under x) f ps = reverse-cons (x ⊑ f .entry) ps
   asked-last A.Nothing f ps = sym (append-nil (reverse ps))
   asked-last A.Missing f ps = sym (append-nil (reverse ps))
 
-  asked-more : (o : Ask) (f : Field) (ps : List Pair) → length ps ≤ length (asked o f ps)
+  asked-more : (o : FieldAsk) (f : Field) (ps : List Pair) → length ps ≤ length (addAsked o f ps)
   asked-more (A.Under x) f ps = omega arith
   asked-more A.Nothing f ps = omega arith
   asked-more A.Missing f ps = omega arith

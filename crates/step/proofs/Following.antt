@@ -21,10 +21,10 @@ use Rattle.constrain.specs.declared.Pairs.the-variants.{Nothing, One, Two, Fiel
 use Rattle.step.specs.Taken.{beforeLast, Midway, roomIn, RoomFor}
 use Rattle.step.specs.Put.{countIn}
 use Rattle.step.specs.declared.Step.the-variants.{Went, Refused}
-use Rattle.step.specs.declared.Room.{Room as RoomFound}
-use Rattle.step.specs.declared.Room.the-variants.{Enough, Lacks}
+use Rattle.step.specs.declared.StepRoom.{StepRoom}
+use Rattle.step.specs.declared.StepRoom.the-variants.{Enough, Lacks}
 use Rattle.step.proofs.Rooms.{fits, room-found}
-use Rattle.step.proofs.Taking.{Answers, refused, went}
+use Rattle.step.proofs.Taking.{Takes, refused, went}
 
 -- as many as are told
 pub count-right : (fs : List Field) (ps : Pairs) → PairsRight fs ps → countIn ps ≡ length (pairsIn fs ps)
@@ -87,7 +87,7 @@ module _ (w : List ℕ) (ps : Pairs) where
     put-fields v s = rw e s
 
 -- the step
-module _ (w : List ℕ) (p : Pair) (ps : Pairs) (right : PairsRight (fieldsIn w) ps) (k : ℕ) (counted : k ≡ countIn ps) (found : RoomFound) (room : RoomFor w (storeOf w) k found) where
+module _ (w : List ℕ) (p : Pair) (ps : Pairs) (right : PairsRight (fieldsIn w) ps) (k : ℕ) (counted : k ≡ countIn ps) (found : StepRoom) (room : RoomFor w (storeOf w) k found) where
   abbrev follows : List Pair
   follows = pairsIn (fieldsIn w) ps
 
@@ -98,7 +98,7 @@ module _ (w : List ℕ) (p : Pair) (ps : Pairs) (right : PairsRight (fieldsIn w)
   unfolding roomFor
   follow-room = ap (λ (n : ℕ). fitting (visit p (storeOf w)) (length (beforeLast w) + n)) (sym many) ∙ sym (room p)
 
-  pub follow-refused : (r : Refusal) → found ≡ Lacks r → Answers w (goes (visit p (storeOf w)) follows) (Refused r) w
+  pub follow-refused : (r : Refusal) → found ≡ Lacks r → Takes w (goes (visit p (storeOf w)) follows) (Refused r) w
   follow-refused r e = refused w (goes (visit p (storeOf w)) follows) r (follow-room ∙ ap roomIn e)
 
   module _ (e : found ≡ Enough) (v : List ℕ) (s : Midway v (tableOf (visit p (storeOf w)) (beforeLast w))) where
@@ -109,7 +109,7 @@ module _ (w : List ℕ) (p : Pair) (ps : Pairs) (right : PairsRight (fieldsIn w)
         let goal : length (beforeLast w) + length follows ≤ storeOf w .capacities .pending = omega (arith, many, f .pending) in
         (shown-as s, (subst (λ (t : Table). PairsRight (t .store .fields) ps) (sym (seen-as s)) right, subst (λ (t : Table). length (t .pending) + length (pairsIn (t .store .fields) ps) ≤ t .store .capacities .pending) (sym (seen-as s)) goal))
 
-    pub follow-went : (u : List ℕ) → Shows u (pendingTo v (pendingIn v ++ reverse (pairsIn (fieldsIn v) ps))) → Answers w (goes (visit p (storeOf w)) follows) Went u
+    pub follow-went : (u : List ℕ) → Shows u (pendingTo v (pendingIn v ++ reverse (pairsIn (fieldsIn v) ps))) → Takes w (goes (visit p (storeOf w)) follows) Went u
     unfolding visit withVisited
     follow-went u su =
         let k : Shows u (tableOf (visit p (storeOf w)) (beforeLast w ++ reverse follows)) = subst (λ (t : Table). Shows u (tableOf (t .store) (t .pending ++ reverse (pairsIn (t .store .fields) ps)))) (seen-as s) su in

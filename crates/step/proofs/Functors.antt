@@ -27,7 +27,7 @@ use Rattle.step.specs.Taken.{Taken, taken, outcomeFor}
 use Rattle.step.specs.Made.{settled}
 use Rattle.step.specs.declared.Step.{Step}
 use Rattle.step.specs.declared.Step.the-variants.{Refused}
-use Rattle.step.proofs.Settling.{Comes, comes, made-none, made-settles, made-settled}
+use Rattle.step.proofs.Settling.{Gives, gives, made-none, made-settles, made-settled}
 
 -- the entries with a lambda more
 abbrev pub withLambda : List Entry → ℕ → ℕ → List Entry
@@ -65,9 +65,9 @@ module _ (w : List ℕ) (sub sup f param body : ℕ) (good : T (wellFormed w)) (
   pub functor-held : old ≤ cap
   functor-held = omega (arith, formed-shown w good .within .held .entries)
 
-  pub functor-full : cap - old < 2 → Comes (taken w (outcomeFor (storeOf w) (sub ⊑ sup) (Functor f param body))) (Refused (NoRoom entriesRegion)) w
+  pub functor-full : cap - old < 2 → Gives (taken w (outcomeFor (storeOf w) (sub ⊑ sup) (Functor f param body))) (Refused (NoRoom entriesRegion)) w
   functor-full h =
-      comes _ _ w
+      gives _ _ w
       (ap (λ (o : Outcome Store Pair Failure). taken w o) outcome
       ∙ made-none w good (withBoth (entriesOf w) param body sub) (sub ⊑ sup) (f ⊑ length (withLambda (entriesOf w) param body)) (omega (arith, both-length (entriesOf w) param body sub)))
 
@@ -99,5 +99,5 @@ module _ (w : List ℕ) (sub sup f param body : ℕ) (good : T (wellFormed w)) (
             (undo-exact (entriesOf w) (withBoth (entriesOf w) param body sub) (negation-known (entriesOf w) (fieldsIn w) (storeOf w .names) (sound-table w good .store .good .entries)) (both-undo (entriesOf w) param body sub))
             ∙ ap (λ (o : Outcome Store Pair Failure). taken w o) (sym outcome)
 
-        pub functor-told : (x : Step) (z : List ℕ) → Comes (settled u old (sub ⊑ sup) (f ⊑ (old + 1))) x z → Comes (taken w (outcomeFor (storeOf w) (sub ⊑ sup) (Functor f param body))) x z
-        functor-told x z k = subst (λ (t : Taken). Comes t x z) same k
+        pub functor-told : (x : Step) (z : List ℕ) → Gives (settled u old (sub ⊑ sup) (f ⊑ (old + 1))) x z → Gives (taken w (outcomeFor (storeOf w) (sub ⊑ sup) (Functor f param body))) x z
+        functor-told x z k = subst (λ (t : Taken). Gives t x z) same k

@@ -32,7 +32,7 @@ use Rattle.step.specs.Taken.{Taken, taken, outcomeFor}
 use Rattle.step.specs.Made.{TargetIn, settled}
 use Rattle.step.specs.declared.Step.{Step}
 use Rattle.step.specs.declared.Step.the-variants.{Refused}
-use Rattle.step.proofs.Settling.{Comes, comes, made-none, made-settles, made-settled}
+use Rattle.step.proofs.Settling.{Gives, gives, made-none, made-settles, made-settled}
 
 module _ (w : List ℕ) (sub sup c d : ℕ) (good : T (wellFormed w)) (below-sup : sup < length (entriesOf w)) (below : d < length (entriesOf w)) where
   sound : SoundStore (storeOf w)
@@ -69,10 +69,10 @@ module _ (w : List ℕ) (sub sup c d : ℕ) (good : T (wellFormed w)) (below-sup
       isolate-undo = (shown (left .1 .0), omega (arith, ap length (seen-entries (table w) v (left .0) (left .1 .0)), left .1 .1 .longer))
 
       pub isolate-full : (u : List ℕ) → Shows u (entriesTo v (undone old (entriesOf v)))
-          → Comes (taken w (outcomeFor (storeOf w) (sub ⊑ sup) (Isolate c d))) (Refused (NoRoom entriesRegion)) u
+          → Gives (taken w (outcomeFor (storeOf w) (sub ⊑ sup) (Isolate c d))) (Refused (NoRoom entriesRegion)) u
       isolate-full u su =
           let back : u ≡ w = words-back w v u (left .0) old good (left .1 .0) (left .1 .1 .undo) e su in
-          comes _ _ u
+          gives _ _ u
           (ap (λ (o : Outcome Store Pair Failure). taken w o) outcome
           ∙ made-none w good (target sup (makeNeg (entriesOf w) d) .after) (sub ⊑ sup) (c ⊑ target sup (makeNeg (entriesOf w) d) .number) lacking
           ∙ ap (λ (x : List ℕ). record { says = Refused (NoRoom entriesRegion); words = x }) (sym back))
@@ -105,5 +105,5 @@ module _ (w : List ℕ) (sub sup c d : ℕ) (good : T (wellFormed w)) (below-sup
           (undo-target (entriesOf w) (fieldsIn w) (storeOf w .names) sup d (sound .good .entries) below-sup below)
           ∙ ap (λ (o : Outcome Store Pair Failure). taken w o) (sym outcome)
 
-      pub isolate-told : (x : Step) (u : List ℕ) → Comes (settled v old (sub ⊑ sup) (c ⊑ k)) x u → Comes (taken w (outcomeFor (storeOf w) (sub ⊑ sup) (Isolate c d))) x u
-      isolate-told x u h = subst (λ (t : Taken). Comes t x u) same h
+      pub isolate-told : (x : Step) (u : List ℕ) → Gives (settled v old (sub ⊑ sup) (c ⊑ k)) x u → Gives (taken w (outcomeFor (storeOf w) (sub ⊑ sup) (Isolate c d))) x u
+      isolate-told x u h = subst (λ (t : Taken). Gives t x u) same h

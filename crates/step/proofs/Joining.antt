@@ -18,12 +18,12 @@ use Rattle.image.specs.Shown.{Shows, Shown, storeOf, graphIn, entriesOf, bounds
 use Rattle.image.proofs.Laying.{seen, seen-as, shown, shown-as}
 use Rattle.step.specs.Taken.{beforeLast, Midway, roomIn, RoomFor}
 use Rattle.step.specs.declared.Step.the-variants.{Went, Refused}
-use Rattle.step.specs.declared.Room.{Room as RoomFound}
-use Rattle.step.specs.declared.Room.the-variants.{Enough, Lacks}
+use Rattle.step.specs.declared.StepRoom.{StepRoom}
+use Rattle.step.specs.declared.StepRoom.the-variants.{Enough, Lacks}
 use Rattle.step.proofs.Rooms.{fits, room-found, visited-room, pass-room}
-use Rattle.step.proofs.Taking.{Answers, refused, went}
+use Rattle.step.proofs.Taking.{Takes, refused, went}
 
-pub bound-fits : (w : List ℕ) (v side b more : ℕ) (found : RoomFound) → found ≡ Enough → RoomFor w (withBounds (addBound v side b (boundsAll w)) (storeOf w)) more found
+pub bound-fits : (w : List ℕ) (v side b more : ℕ) (found : StepRoom) → found ≡ Enough → RoomFor w (withBounds (addBound v side b (boundsAll w)) (storeOf w)) more found
     → length (addBound v side b (boundsAll w)) ≤ storeOf w .capacities .bounds
 unfolding visit withVisited withBounds
 bound-fits w v side b more found e q =
@@ -51,11 +51,11 @@ pub then-advance : {u x : List ℕ} {t : Table} → Shows u t → (p : Pair) →
 then-advance {u} {x} {t} s p h = subst (λ (y : Table). Midway x (tableOf (visit p (y .store)) (take (length (y .pending) - 1) (y .pending)))) (seen s) h
 
 -- what the step leaves, but for its pair: the room, and the pairs to come
-pub record Joins (w : List ℕ) (after : Store) (v other more : ℕ) (found : RoomFound) : Type 0 where
+pub record Joins (w : List ℕ) (after : Store) (v other more : ℕ) (found : StepRoom) : Type 0 where
   pub room : RoomFor w after more found
   pub counted : length (boundsIn (after .bounds) v other) ≡ more
 
-pub joins : (w : List ℕ) (v side b more : ℕ) (found : RoomFound) → side ≤ upper → more ≡ length (boundsIn (boundsAll w) v (otherSide side))
+pub joins : (w : List ℕ) (v side b more : ℕ) (found : StepRoom) → side ≤ upper → more ≡ length (boundsIn (boundsAll w) v (otherSide side))
     → RoomFor w (withBounds (addBound v side b (boundsAll w)) (storeOf w)) more found → Joins w (withBound w v side b) v (otherSide side) more found
 unfolding withBounds withEntries
 joins w v side b more found le e q =
@@ -65,7 +65,7 @@ joins w v side b more found le e q =
       counted = ap length (add-bounds (boundsAll w) v b v side le) ∙ sym e;
     }
 
-module _ (w : List ℕ) (after : Store) (v other more : ℕ) (found : RoomFound) (j : Joins w after v other more found) where
+module _ (w : List ℕ) (after : Store) (v other more : ℕ) (found : StepRoom) (j : Joins w after v other more found) where
   module _ (e : found ≡ Enough) where
     pub advance-needs : (u : List ℕ) → Shows u (tableOf after (pendingIn w)) → 0 < length (pendingIn w)
         → Shown u × ((length (visitedIn u) < storeOf u .capacities .visited) × (0 < length (pendingIn u)))
@@ -91,11 +91,11 @@ module _ (w : List ℕ) (after : Store) (v other more : ℕ) (found : RoomFound)
   room-is p f =
       ap (λ (n : ℕ). fitting (visit p after) (length (beforeLast w) + n)) (length-map (boundsIn (after .bounds) v other) f ∙ j .counted) ∙ sym (j .room p)
 
-  pub join-refused : (p : Pair) (f : ℕ → Pair) (x : Refusal) → found ≡ Lacks x → Answers w (goes (visit p after) (map f (boundsIn (after .bounds) v other))) (Refused x) w
+  pub join-refused : (p : Pair) (f : ℕ → Pair) (x : Refusal) → found ≡ Lacks x → Takes w (goes (visit p after) (map f (boundsIn (after .bounds) v other))) (Refused x) w
   join-refused p f x e = refused w (goes (visit p after) (map f (boundsIn (after .bounds) v other))) x (room-is p f ∙ ap roomIn e)
 
   pub joined : (p : Pair) (f : ℕ → Pair) → found ≡ Enough → (u x : List ℕ) → Midway u (tableOf (visit p after) (beforeLast w))
-      → Shows x (pendingTo u (pendingIn u ++ reverse (map f (boundsIn (boundsAll u) v other)))) → Answers w (goes (visit p after) (map f (boundsIn (after .bounds) v other))) Went x
+      → Shows x (pendingTo u (pendingIn u ++ reverse (map f (boundsIn (boundsAll u) v other)))) → Takes w (goes (visit p after) (map f (boundsIn (after .bounds) v other))) Went x
   unfolding visit withVisited
   joined p f e u x su sx =
       let a : Shows x (tableOf (visit p after) (beforeLast w ++ reverse (map f (boundsIn (after .bounds) v other)))) =
@@ -109,15 +109,15 @@ join-outcome : (w : List ℕ) (p : Pair) (v side b : ℕ)
 unfolding outcomeOf joinBounds changedTo withGraph visit withVisited withBounds withEntries
 join-outcome w p v side b = refl
 
-module _ (w : List ℕ) (p : Pair) (v side b more : ℕ) (found : RoomFound) (j : Joins w (withBound w v side b) v (otherSide side) more found) where
-  pub bound-refused : (x : Refusal) → found ≡ Lacks x → Answers w (outcomeOf (visit p (storeOf w)) p (joinBounds (graphIn w) v side b)) (Refused x) w
+module _ (w : List ℕ) (p : Pair) (v side b more : ℕ) (found : StepRoom) (j : Joins w (withBound w v side b) v (otherSide side) more found) where
+  pub bound-refused : (x : Refusal) → found ≡ Lacks x → Takes w (outcomeOf (visit p (storeOf w)) p (joinBounds (graphIn w) v side b)) (Refused x) w
   bound-refused x e =
-      subst (λ (o : Outcome Store Pair Failure). Answers w o (Refused x) w) (join-outcome w p v side b)
+      subst (λ (o : Outcome Store Pair Failure). Takes w o (Refused x) w) (join-outcome w p v side b)
       (join-refused w _ v (otherSide side) more found j p (boundPair (otherSide side) b) x e)
 
   pub bound-joined : found ≡ Enough → (u x : List ℕ) → Midway u (tableOf (visit p (withBound w v side b)) (beforeLast w))
       → Shows x (pendingTo u (pendingIn u ++ reverse (map (boundPair (otherSide side) b) (boundsIn (boundsAll u) v (otherSide side)))))
-      → Answers w (outcomeOf (visit p (storeOf w)) p (joinBounds (graphIn w) v side b)) Went x
+      → Takes w (outcomeOf (visit p (storeOf w)) p (joinBounds (graphIn w) v side b)) Went x
   bound-joined e u x su sx =
-      subst (λ (o : Outcome Store Pair Failure). Answers w o Went x) (join-outcome w p v side b)
+      subst (λ (o : Outcome Store Pair Failure). Takes w o Went x) (join-outcome w p v side b)
       (joined w _ v (otherSide side) more found j p (boundPair (otherSide side) b) e u x su sx)

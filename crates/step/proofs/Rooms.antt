@@ -24,8 +24,8 @@ use Rattle.laws.proofs.StepSound.{passes, fitting-enough}
 use Rattle.laws.proofs.Stores.{by-test}
 use Rattle.image.specs.Shown.{storeOf, boundsAll, visitedIn, pendingIn}
 use Rattle.step.specs.Taken.{beforeLast, roomIn, RoomFor, RoomForBound}
-use Rattle.step.specs.declared.Room.{Room as RoomFound}
-use Rattle.step.specs.declared.Room.the-variants.{Enough, Lacks}
+use Rattle.step.specs.declared.StepRoom.{StepRoom}
+use Rattle.step.specs.declared.StepRoom.the-variants.{Enough, Lacks}
 
 -- what is left where the last pair is taken off
 pub before-length : (w : List ℕ) → length (beforeLast w) ≡ length (pendingIn w) - 1
@@ -64,12 +64,12 @@ module _ (w : List ℕ) (good : T (wellFormed w)) (more : ℕ) where
         (record { entries = k .entries; fields = k .fields; bounds = k .bounds; visited = omega (arith, one-more (visitedIn w) p); equals = k .equals }) h (s .shallow))
 
 -- what has room passed every test
-pub record Fits (u : Store) (n : ℕ) : Type 0 where
+pub record RegionsFit (u : Store) (n : ℕ) : Type 0 where
   pub bounds : length (u .bounds) ≤ u .capacities .bounds
   pub visited : length (u .visited) ≤ u .capacities .visited
   pub pending : n ≤ u .capacities .pending
 
-pub fits : (u : Store) (n : ℕ) → fitting u n ≡ enough → Fits u n
+pub fits : (u : Store) (n : ℕ) → fitting u n ≡ enough → RegionsFit u n
 unfolding fitting firstLacking deepEnough
 fits u n e =
     let c = u .capacities in
@@ -85,10 +85,10 @@ fits u n e =
     }
 
 -- room was found for a store with its pair visited
-pub room-found : (w : List ℕ) (s : Store) (more : ℕ) (r : RoomFound) → r ≡ Enough → RoomFor w s more r → (p : Pair) → fitting (visit p s) (length (beforeLast w) + more) ≡ enough
+pub room-found : (w : List ℕ) (s : Store) (more : ℕ) (r : StepRoom) → r ≡ Enough → RoomFor w s more r → (p : Pair) → fitting (visit p s) (length (beforeLast w) + more) ≡ enough
 room-found w s more r e q p = sym (q p) ∙ ap roomIn e
 
-pub visited-room : (w : List ℕ) (s : Store) (more : ℕ) (r : RoomFound) → r ≡ Enough → RoomFor w s more r → length (s .visited) < s .capacities .visited
+pub visited-room : (w : List ℕ) (s : Store) (more : ℕ) (r : StepRoom) → r ≡ Enough → RoomFor w s more r → length (s .visited) < s .capacities .visited
 unfolding visit withVisited
 visited-room w s more r e q =
     let p : Pair = 0 ⊑ 0 in
@@ -101,7 +101,7 @@ break-room f u n = by-test (λ (s : Store). fitting s n ≡ fitting u n) (isBrok
 
 -- a bound, unless it repeats one
 module _ (w : List ℕ) (good : T (wellFormed w)) (repeated : Bool) (more : ℕ) where
-  pub bound-repeats : repeated ≡ true → (r : RoomFound) → RoomFor w (storeOf w) more r → RoomForBound w repeated more r
+  pub bound-repeats : repeated ≡ true → (r : StepRoom) → RoomFor w (storeOf w) more r → RoomForBound w repeated more r
   unfolding addBound withBounds
   bound-repeats t r q v side b e p =
       let z : repeats (boundsIn (boundsAll w) v side) b ≡ true = sym e ∙ t in
@@ -116,7 +116,7 @@ module _ (w : List ℕ) (good : T (wellFormed w)) (repeated : Bool) (more : ℕ)
         let r : Bound = record { variable = v; side = side; bound = b } in
         sym (rw (z, le-ltb _ _ (k .entries), le-ltb _ _ (k .fields), lt-ltb (storeOf w .capacities .bounds) (length (boundsAll w ++ (r ∷ []))) (omega (arith, one-more (boundsAll w) r))))
 
-    pub bound-more : length (boundsAll w) < storeOf w .capacities .bounds → (r : RoomFound) → RoomFor w (storeOf w) more r → RoomForBound w repeated more r
+    pub bound-more : length (boundsAll w) < storeOf w .capacities .bounds → (r : StepRoom) → RoomFor w (storeOf w) more r → RoomForBound w repeated more r
     unfolding fitting firstLacking deepEnough visit withVisited addBound withBounds
     bound-more h r q v side b e p =
         let k = sound-table w good .store .held in

@@ -54,12 +54,12 @@ deep-none es i h le = none-deep es (λ j lt. h j (omega arith))
 pub deep-hit : (es : List Entry) (i n x : ℕ) → n ≡ length es → i < n → x ≡ spreadAt es i → spreadMost < x → tooDeep es ≡ true
 deep-hit es i n x e lt f h = some-deep es i (omega arith) (omega arith)
 
--- a step answers and leaves what it comes to
-abbrev pub Comes : Taken → Step → List ℕ → Type 0
-Comes t r v = (r ≡ t .says) × (v ≡ t .words)
+-- a step answers and leaves what it gives to
+abbrev pub Gives : Taken → Step → List ℕ → Type 0
+Gives t r v = (r ≡ t .says) × (v ≡ t .words)
 
-pub comes : (t : Taken) (r : Step) (v : List ℕ) → t ≡ record { says = r; words = v } → Comes t r v
-comes t r v e = (ap (λ (x : Taken). x .says) (sym e), ap (λ (x : Taken). x .words) (sym e))
+pub gives : (t : Taken) (r : Step) (v : List ℕ) → t ≡ record { says = r; words = v } → Gives t r v
+gives t r v e = (ap (λ (x : Taken). x .says) (sym e), ap (λ (x : Taken). x .words) (sym e))
 
 -- what `settled` is, by the table
 abbrev settledIn : Table → List Pair → ℕ → Pair → Pair → Taken
@@ -113,21 +113,21 @@ module _ (w : List ℕ) (old : ℕ) (p q : Pair) (s : Shown w) (some : 0 < lengt
   same = refl
 
   pub settle-full : (number cap : ℕ) → number ≡ length (visitedIn w) → cap ≡ storeOf w .capacities .visited → cap ≤ number
-      → (u : List ℕ) → Shows u (entriesTo w (undone old (entriesOf w))) → Comes (settled w old p q) (Refused (NoRoom visitedRegion)) u
+      → (u : List ℕ) → Shows u (entriesTo w (undone old (entriesOf w))) → Gives (settled w old p q) (Refused (NoRoom visitedRegion)) u
   settle-full number cap n c h u su =
-      comes _ _ u (same ∙ settled-full (table w) (beforeLast w) old p q (s .within) (room w s some) (omega arith) ∙ ap (λ (x : List ℕ). record { says = Refused (NoRoom visitedRegion); words = x }) (sym (su .is)))
+      gives _ _ u (same ∙ settled-full (table w) (beforeLast w) old p q (s .within) (room w s some) (omega arith) ∙ ap (λ (x : List ℕ). record { says = Refused (NoRoom visitedRegion); words = x }) (sym (su .is)))
 
   module _ (number cap : ℕ) (n : number ≡ length (visitedIn w)) (c : cap ≡ storeOf w .capacities .visited) (h : number < cap) where
     pub settle-deep : (deep : Bool) → deep ≡ tooDeep (entriesOf w) → deep ≡ true
-        → (u : List ℕ) → Shows u (entriesTo w (undone old (entriesOf w))) → Comes (settled w old p q) (Refused TooDeep) u
+        → (u : List ℕ) → Shows u (entriesTo w (undone old (entriesOf w))) → Gives (settled w old p q) (Refused TooDeep) u
     settle-deep deep e d u su =
-        comes _ _ u (same ∙ settled-deep (table w) (beforeLast w) old p q (s .within) (room w s some) (omega arith) (sym e ∙ d) ∙ ap (λ (x : List ℕ). record { says = Refused TooDeep; words = x }) (sym (su .is)))
+        gives _ _ u (same ∙ settled-deep (table w) (beforeLast w) old p q (s .within) (room w s some) (omega arith) (sym e ∙ d) ∙ ap (λ (x : List ℕ). record { says = Refused TooDeep; words = x }) (sym (su .is)))
 
     pub settle-went : (deep : Bool) → deep ≡ tooDeep (entriesOf w) → deep ≡ false
-        → (v : List ℕ) → Midway v (tableOf (visit p (storeOf w)) (beforeLast w)) → (u : List ℕ) → Shows u (pendingTo v (pendingIn v ++ (q ∷ []))) → Comes (settled w old p q) Went u
+        → (v : List ℕ) → Midway v (tableOf (visit p (storeOf w)) (beforeLast w)) → (u : List ℕ) → Shows u (pendingTo v (pendingIn v ++ (q ∷ []))) → Gives (settled w old p q) Went u
     settle-went deep e d v sv u su =
         let a : Shows u (tableOf (visit p (storeOf w)) (beforeLast w ++ (q ∷ []))) = subst (λ (t : Table). Shows u (tableOf (t .store) (t .pending ++ (q ∷ [])))) (seen-as sv) su in
-        comes _ _ u (same ∙ settled-well (table w) (beforeLast w) old p q (s .within) (room w s some) (omega arith) (sym e ∙ d) ∙ ap (λ (x : List ℕ). record { says = Went; words = x }) (sym (a .is)))
+        gives _ _ u (same ∙ settled-well (table w) (beforeLast w) old p q (s .within) (room w s some) (omega arith) (sym e ∙ d) ∙ ap (λ (x : List ℕ). record { says = Went; words = x }) (sym (a .is)))
 
 -- entries us were made in a well formed image w
 module _ (w : List ℕ) (good : T (wellFormed w)) (us : List Entry) (p : Pair) where
@@ -151,7 +151,7 @@ module _ (w : List ℕ) (good : T (wellFormed w)) (us : List Entry) (p : Pair) w
         omega (arith, ap (λ (d : Entry). d .spread) (getD-take old us i noEntry (omega arith)), kept .kept i (omega arith) .spread, sound-table w good .store .shallow i (omega arith)) in
         (shown sv, (omega (arith, ap (λ (u : Table). length (u .pending)) t), (rw es le, rw es low)))
 
-    -- what it comes to
+    -- what it gives to
     pub made-settled : (q : Pair) → undone (length (entriesOf w)) us ≡ entriesOf w
         → settled v old p q ≡ taken w (goes (visit p (withEntries us (storeOf w))) (q ∷ []))
     unfolding withEntries roomFor

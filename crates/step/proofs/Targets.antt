@@ -22,7 +22,7 @@ use Rattle.image.proofs.Laying.{seen, shown, shown-laid}
 use Rattle.type_table.specs.Made.{entriesIn, Negatable, NegatedIn}
 use Rattle.type_table.specs.declared.Negated.{Negated}
 use Rattle.type_table.specs.declared.Negated.the-variants as N
-use Rattle.type_table.proofs.Steps.{spread-both}
+use Rattle.type_table.proofs.WaysOut.{spread-both}
 use Rattle.type_table.proofs.Undoing.{seen-entries}
 use Rattle.type_table.proofs.Negating.{full-lacks, made-fits, made-number, made-shows}
 use Rattle.step.specs.Made.{TargetIn}

@@ -5,13 +5,13 @@ use Rattle.model.specs.Table.{Field, Pair}
 use Rattle.model.specs.declared.Attrset.{Attrset}
 use Rattle.image.specs.Records.{fieldAt}
 use Rattle.disjoint.specs.Fields.{fieldsHeld}
-use Rattle.constrain.specs.Fields.{askOf, asked}
+use Rattle.constrain.specs.Fields.{askOf, addAsked}
 use Rattle.constrain.specs.declared.Pairs.{Pairs}
 use Rattle.constrain.specs.declared.Pairs.the-variants.{Nothing, One, Two, Fields}
 
 -- what field record j asks of a, as a pair or none
 abbrev pub fieldPair : List Field → Attrset → ℕ → List Pair
-fieldPair fs a j = asked (askOf a (fieldsHeld fs a) (fieldAt fs j)) (fieldAt fs j) []
+fieldPair fs a j = addAsked (askOf a (fieldsHeld fs a) (fieldAt fs j)) (fieldAt fs j) []
 
 -- how many, as it is told
 abbrev pub countIn : Pairs → ℕ

@@ -19,8 +19,8 @@ use Rattle.constrain.specs.Next.{effectOf}
 use Rattle.constrain.specs.declared.Next.{Next}
 use Rattle.step.specs.declared.Step.{Step}
 use Rattle.step.specs.declared.Step.the-variants.{Went, Failed, Refused}
-use Rattle.step.specs.declared.Room.{Room as RoomFound}
-use Rattle.step.specs.declared.Room.the-variants.{Enough, Lacks}
+use Rattle.step.specs.declared.StepRoom.{StepRoom}
+use Rattle.step.specs.declared.StepRoom.the-variants.{Enough, Lacks}
 
 -- "A step takes one pair off the end of pending": that pair, and what stands before it
 abbrev pub lastPair : List ℕ → Pair
@@ -33,16 +33,16 @@ beforeLast w = take (length (pendingIn w) - 1) (pendingIn w)
 abbrev pub Midway : List ℕ → Table → Type 0
 Midway w t = ShowsAs asked w t
 
-abbrev pub roomIn : RoomFound → Room Refusal
+abbrev pub roomIn : StepRoom → Room Refusal
 roomIn Enough = enough
 roomIn (Lacks r) = lacks r
 
 -- the room for a store that a step would leave, with its pair visited, and for so many consequences
-abbrev pub RoomFor : List ℕ → Store → ℕ → RoomFound → Type 0
+abbrev pub RoomFor : List ℕ → Store → ℕ → StepRoom → Type 0
 RoomFor w s more r = (p : Pair) → roomIn r ≡ fitting (visit p s) (length (beforeLast w) + more)
 
 -- the same where it adds a bound, unless that repeats one
-abbrev pub RoomForBound : List ℕ → Bool → ℕ → RoomFound → Type 0
+abbrev pub RoomForBound : List ℕ → Bool → ℕ → StepRoom → Type 0
 RoomForBound w repeated more r = (v side b : ℕ) → repeated ≡ repeats (boundsIn (boundsAll w) v side) b → RoomFor w (withBounds (addBound v side b (boundsAll w)) (storeOf w)) more r
 
 -- what it answers, and the words after

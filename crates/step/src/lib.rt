@@ -1,6 +1,6 @@
 // One step of a question: takes the last pair off pending, decides, makes entries, tests its needs region by region and then depth,
 // and applies what was decided, or fails, or is refused with nothing done. Its contract is the model's rule and room.
-use constrain::Ask;
+use constrain::FieldAsk;
 use constrain::Next;
 use constrain::Pairs;
 use model::Attrset;
@@ -40,7 +40,7 @@ pub enum Step {
 }
 
 // Whether a step has room.
-pub enum Room {
+pub enum StepRoom {
     Enough,
     Lacks(Refusal),
 }
@@ -67,19 +67,19 @@ fn skip(image: &mut [u32])
 }
 
 // Whether there is room for a visited pair and so many consequences, the pair taken off first.
-fn room_for(image: &[u32], more: u32) -> Room
+fn room_for(image: &[u32], more: u32) -> StepRoom
     requires { ⌜ T (wellFormed (now image)) ⌝ }
     requires { ⌜ 0 < length (pendingIn (now image)) ⌝ }
     ensures { λ r. ⌜ RoomFor (now (image .entry)) (storeOf (now (image .entry))) more r ⌝ }
 {
     if image::visited_capacity(image) <= image::visited_count(image) {
-        return Room::Lacks(Refusal::NoRoom(image::VISITED));
+        return StepRoom::Lacks(Refusal::NoRoom(image::VISITED));
     }
     let others = image::pending_count(image) - 1;
     if image::pending_capacity(image) - others < more {
-        return Room::Lacks(Refusal::NoRoom(image::PENDING));
+        return StepRoom::Lacks(Refusal::NoRoom(image::PENDING));
     }
-    Room::Enough
+    StepRoom::Enough
 }
 
 // Writes the break words, unless an earlier failure stands there.
@@ -106,7 +106,7 @@ fn fail(image: &mut [u32], sub: u32, sup: u32, failure: Failure) -> Step
     ensures { λ _. ⌜ now (image .exit) ≡ taken (now (image .entry)) (failing (visit (sub ⊑ sup) (storeOf (now (image .entry)))) failure) .words ⌝ }
 {
     let room = room_for(image, 0);
-    if let Room::Lacks(r) = room {
+    if let StepRoom::Lacks(r) = room {
         return Step::Refused(r);
     }
     image::push_visited(image, sub, sup);
@@ -124,7 +124,7 @@ fn put_field_pair(image: &mut [u32], a: Attrset, j: u32)
     ensures { λ _. ⌜ Midway (now (image .exit)) (pendingTo (now (image .entry)) (pendingIn (now (image .entry)) ++ fieldPair (fieldsIn (now (image .entry))) a j)) ⌝ }
 {
     let ask = constrain::asks(image, a, j);
-    if let Ask::Under(x) = ask {
+    if let FieldAsk::Under(x) = ask {
         let entry = image::field_word(image, j, image::ENTRY_WORD);
         image::put_consequence(image, x, entry);
     }
@@ -200,7 +200,7 @@ fn follow(image: &mut [u32], sub: u32, sup: u32, pairs: Pairs) -> Step
     ensures { λ _. ⌜ now (image .exit) ≡ taken (now (image .entry)) (goes (visit (sub ⊑ sup) (storeOf (now (image .entry)))) (pairsIn (fieldsIn (now (image .entry))) pairs)) .words ⌝ }
 {
     let room = room_for(image, count_of(pairs));
-    if let Room::Lacks(r) = room {
+    if let StepRoom::Lacks(r) = room {
         return Step::Refused(r);
     }
     advance(image, sub, sup);
@@ -220,7 +220,7 @@ fn make_target(image: &mut [u32], sup: u32, d: u32) -> Negated
     let Negated::Number(n) = type_table::negate(image, d) else {
         return Negated::Full;
     };
-    if disjoint::union_member(image, n, sup) {
+    if disjoint::union_contains_member(image, sup, n) {
         return Negated::Number(sup);
     }
     let number = image::entries_count(image);
@@ -275,7 +275,7 @@ fn settle(image: &mut [u32], old: u32, sub: u32, sup: u32, c: u32, target: u32) 
 }
 
 // An inter's chosen side c, under sup or the negation of the other side d.
-fn isolate(image: &mut [u32], sub: u32, sup: u32, c: u32, d: u32) -> Step
+fn follow_isolated(image: &mut [u32], sub: u32, sup: u32, c: u32, d: u32) -> Step
     requires { ⌜ T (wellFormed (now image)) ⌝ }
     requires { ⌜ 0 < length (pendingIn (now image)) ⌝ }
     requires { ⌜ sup < length (entriesOf (now image)) ⌝ }
@@ -292,7 +292,7 @@ fn isolate(image: &mut [u32], sub: u32, sup: u32, c: u32, d: u32) -> Step
 }
 
 // The type f of the field `__functor`, under a lambda from sub to lambda(param, body).
-fn functor(image: &mut [u32], sub: u32, sup: u32, f: u32, param: u32, body: u32) -> Step
+fn follow_functor(image: &mut [u32], sub: u32, sup: u32, f: u32, param: u32, body: u32) -> Step
     requires { ⌜ T (wellFormed (now image)) ⌝ }
     requires { ⌜ 0 < length (pendingIn (now image)) ⌝ }
     ensures { λ r. ⌜ r ≡ taken (now (image .entry)) (outcomeFor (storeOf (now (image .entry))) (sub ⊑ sup) (Functor f param body)) .says ⌝ }
@@ -308,7 +308,7 @@ fn functor(image: &mut [u32], sub: u32, sup: u32, f: u32, param: u32, body: u32)
 }
 
 // Whether there is room for a bound, unless it repeats one, and for the rest of the step.
-fn room_for_bound(image: &[u32], repeated: bool, more: u32) -> Room
+fn room_for_bound(image: &[u32], repeated: bool, more: u32) -> StepRoom
     requires { ⌜ T (wellFormed (now image)) ⌝ }
     requires { ⌜ 0 < length (pendingIn (now image)) ⌝ }
     ensures { λ r. ⌜ RoomForBound (now (image .entry)) repeated more r ⌝ }
@@ -317,7 +317,7 @@ fn room_for_bound(image: &[u32], repeated: bool, more: u32) -> Room
         return room_for(image, more);
     }
     if image::bounds_capacity(image) <= image::bounds_count(image) {
-        return Room::Lacks(Refusal::NoRoom(image::BOUNDS));
+        return StepRoom::Lacks(Refusal::NoRoom(image::BOUNDS));
     }
     room_for(image, more)
 }
@@ -396,7 +396,7 @@ fn join_bounds(image: &mut [u32], sub: u32, sup: u32, v: u32, side: u32, b: u32)
     let repeated = storage::repeats_bound(image, n, v, side, b);
     let more = storage::count_bounds(image, n, v, other);
     let room = room_for_bound(image, repeated, more);
-    if let Room::Lacks(r) = room {
+    if let StepRoom::Lacks(r) = room {
         return Step::Refused(r);
     }
     add_bound(image, repeated, v, side, b);
@@ -421,8 +421,8 @@ fn apply(image: &mut [u32], sub: u32, sup: u32, next: Next) -> Step
         Next::Mismatch => fail(image, sub, sup, Failure::Mismatch { sub, sup }),
         Next::Missing(name) => fail(image, sub, sup, Failure::MissingField { sub, sup, name }),
         Next::Follow(pairs) => follow(image, sub, sup, pairs),
-        Next::Isolate { chosen, other } => isolate(image, sub, sup, chosen, other),
-        Next::Functor { field, param, body } => functor(image, sub, sup, field, param, body),
+        Next::Isolate { chosen, other } => follow_isolated(image, sub, sup, chosen, other),
+        Next::Functor { field, param, body } => follow_functor(image, sub, sup, field, param, body),
         Next::Upper => join_bounds(image, sub, sup, sub, image::UPPER, sup),
         Next::Lower => join_bounds(image, sub, sup, sup, image::LOWER, sub),
     }

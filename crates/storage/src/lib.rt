@@ -119,7 +119,7 @@ pub fn mark(image: &mut [u32], n: u32)
 }
 
 // Puts the variable v at level l.
-pub fn set_level(image: &mut [u32], v: u32, l: u32)
+pub fn set_var_level(image: &mut [u32], v: u32, l: u32)
     requires { ⌜ Shown (now image) ⌝ }
     requires { ⌜ v < length (entriesOf (now image)) ⌝ }
     ensures { λ _. ⌜ now (image .exit) ≡ words (entriesTo (now (image .entry)) (changed (withX l) (entriesOf (now (image .entry))) v)) ⌝ }
@@ -127,8 +127,8 @@ pub fn set_level(image: &mut [u32], v: u32, l: u32)
     image::put_level(image, v, l);
 }
 
-// Enters a level, and leaves it again.
-pub fn enter(image: &mut [u32]) -> Reply
+// Enters a level.
+pub fn enter_level(image: &mut [u32]) -> Reply
     requires { ⌜ Shown (now image) ⌝ }
     ensures { λ r. ⌜ toldReply r ≡ enterReply (now (image .entry)) .says ⌝ }
     ensures { λ _. ⌜ now (image .exit) ≡ enterReply (now (image .entry)) .words ⌝ }
@@ -141,7 +141,8 @@ pub fn enter(image: &mut [u32]) -> Reply
     Reply::Done
 }
 
-pub fn exit(image: &mut [u32]) -> Reply
+// Leaves a level.
+pub fn exit_level(image: &mut [u32]) -> Reply
     requires { ⌜ Shown (now image) ⌝ }
     ensures { λ r. ⌜ toldReply r ≡ exitReply (now (image .entry)) .says ⌝ }
     ensures { λ _. ⌜ now (image .exit) ≡ exitReply (now (image .entry)) .words ⌝ }

@@ -24,7 +24,7 @@ use Rattle.type_table.specs.Made.{entriesIn, Negatable, NegatedIn}
 use Rattle.type_table.specs.declared.Negated.{Negated}
 use Rattle.type_table.specs.declared.Negated.the-variants as N
 use Rattle.type_table.proofs.Replies.{made-full, made-deep, made-done, neg-too-deep}
-use Rattle.type_table.proofs.Steps.{Replies, replied}
+use Rattle.type_table.proofs.WaysOut.{MakesReply, replied}
 use Rattle.type_table.proofs.Undoing.{seen-entries}
 use Rattle.type_table.proofs.Negating.{full-lacks, made-fits, made-number, made-shows}
 
@@ -69,7 +69,7 @@ module _ (w : List ℕ) (n : ℕ) (good : T (wellFormed w)) (below : n < length 
           let b = none .full (full-lacks (table w) n v none) .1 in
           (shown (b .1 .0), omega (arith, ap length (seen-entries (table w) v (b .0) (b .1 .0)), b .1 .1 .longer))
 
-      pub full-told : (u : List ℕ) → Shows u (entriesTo v (undone old (entriesOf v))) → Replies w (makeNeg (entriesOf w) n) (refused 5 (entriesRegion ∷ [])) u
+      pub full-told : (u : List ℕ) → Shows u (entriesTo v (undone old (entriesOf v))) → MakesReply w (makeNeg (entriesOf w) n) (refused 5 (entriesRegion ∷ [])) u
       full-told u su =
           let m : Making = makeNeg (entriesOf w) n in
           let l = full-lacks (table w) n v none in
@@ -104,14 +104,14 @@ module _ (w : List ℕ) (n : ℕ) (good : T (wellFormed w)) (below : n < length 
       spread-is = rw (same, number)
 
       pub deep-told : spreadMost < spreadAt (entriesOf v) k → (u : List ℕ) → Shows u (entriesTo v (undone old (entriesOf v)))
-          → Replies w (makeNeg (entriesOf w) n) (refused 6 []) u
+          → MakesReply w (makeNeg (entriesOf w) n) (refused 6 []) u
       deep-told h u su =
           let m : Making = makeNeg (entriesOf w) n in
           let z : tooDeep (m .after) ≡ true = deep ∙ lt-ltb spreadMost (spreadAt (m .after) (m .number)) (omega (arith, spread-is)) in
           let q = replied w m _ (made-deep w m (formed-shown w good .within) fits z) in
           (q .0, words-back w v u (m .after) old good shows (grown .undo) e su ∙ q .1)
 
-      pub made-told : spreadAt (entriesOf v) k ≤ spreadMost → Replies w (makeNeg (entriesOf w) n) (done (k ∷ [])) v
+      pub made-told : spreadAt (entriesOf v) k ≤ spreadMost → MakesReply w (makeNeg (entriesOf w) n) (done (k ∷ [])) v
       made-told h =
           let m : Making = makeNeg (entriesOf w) n in
           let z : tooDeep (m .after) ≡ false = deep ∙ le-ltb spreadMost (spreadAt (m .after) (m .number)) (omega (arith, spread-is)) in

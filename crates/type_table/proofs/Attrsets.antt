@@ -28,7 +28,7 @@ use Rattle.image.proofs.Laying.{formed-shown, seen, shown}
 use Rattle.image.proofs.Pending.{same-size}
 use Rattle.type_table.specs.Made.{attrsetReply, firstField, entriesIn}
 use Rattle.type_table.proofs.Replies.{put-too-deep}
-use Rattle.type_table.proofs.Steps.{spread-none}
+use Rattle.type_table.proofs.WaysOut.{spread-none}
 
 -- the fields of a list, one by one
 pub fields-count : (l : List ℕ) → length (fieldList l) ≡ length l / fieldWidth

@@ -1,6 +1,6 @@
 pub mod Rounds
 pub mod Replies
-pub mod Steps
+pub mod WaysOut
 pub mod Undoing
 pub mod Negating
 pub mod Answers

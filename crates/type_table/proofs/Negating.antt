@@ -19,7 +19,7 @@ use Rattle.type_table.specs.Made.{entriesIn, Added, CachedLow, Negatable
 use Rattle.type_table.specs.declared.Negated.{Negated}
 use Rattle.type_table.specs.declared.Negated.the-variants as N
 use Rattle.type_table.proofs.Rounds.{kind-known, neg-cached, neg-twice, neg-fresh, neg-over}
-use Rattle.type_table.proofs.Steps.{spread-inner, spread-both}
+use Rattle.type_table.proofs.WaysOut.{spread-inner, spread-both}
 use Rattle.type_table.proofs.Undoing.{seen-entries}
 
 pub never : (c : ℕ) → N.Full ≡ N.Number c → ⊥

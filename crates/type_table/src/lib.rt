@@ -34,7 +34,7 @@ fn spread_of(image: &[u32], kind: u32, x: u32, y: u32) -> u32
     }
 }
 
-// Makes an entry that has no z and no flags.
+// Makes an entry that has no z and no flags: the Rust's `alloc_concrete`, and `new_var`.
 pub fn make(image: &mut [u32], kind: u32, x: u32, y: u32) -> Made
     requires { ⌜ T (wellFormed (now image)) ⌝ }
     requires { ⌜ Components (entriesOf (now image)) kind x y ⌝ }
@@ -101,7 +101,7 @@ pub fn undo(image: &mut [u32], old: u32)
     }
 }
 
-// Makes Neg(n), entry by entry, as far as there is room.
+// Makes Neg(n), entry by entry, as far as there is room: what the Rust's `alloc_concrete` does with a negation.
 pub fn negate(image: &mut [u32], n: u32) -> Negated
     requires { ⌜ Negatable (now image) n ⌝ }
     ensures { λ r. ⌜ NegatedIn (table (now (image .entry))) n r (now (image .exit)) ⌝ }

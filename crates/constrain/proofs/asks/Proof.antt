@@ -2,7 +2,7 @@
 use native.Mathlib.Omega.{arith}
 use mathlib.Core.Path.{sym, ap, _∙_}
 use Rattle.disjoint.proofs.Finding.{named-there}
-use Rattle.constrain.specs.declared.Ask.the-variants.{Under}
+use Rattle.constrain.specs.declared.FieldAsk.the-variants.{Under}
 use Rattle.constrain.proofs.Gathering.{named-by, ask-found, ask-nothing}
 use borrow.Author.Needs.{needs}
 use Rattle.constrain.proofs.asks.Statement.{statement}
@@ -14,10 +14,10 @@ use Rattle.disjoint.proofs.field_named.Reads as field-named-reads
 use Rattle.image.proofs.field_word.Reads as field-word-reads
 
 field-word-requires : tie.Need-field-word-requires
-field-word-requires c κs = search needs
+field-word-requires c κs = let p = c .before .pre in (p .0, (p .1 .1, omega arith))
 
 field-named-requires : tie.Need-field-named-requires
-field-named-requires c κs = search needs
+field-named-requires c κs = let p = c .before .before .pre in (p .0, p .1 .0)
 
 enum-known-found : tie.Need-enum-known-found
 enum-known-found c = search needs
@@ -31,7 +31,7 @@ enum-told : tie.Need-enum-told
 enum-told c = search needs
 
 asks-dynamic-requires : tie.Need-asks-dynamic-requires
-asks-dynamic-requires c κs = search needs
+asks-dynamic-requires c κs = let p = c .before .before .before .before .before .pre in (p .0, p .1 .1)
 
 returns : tie.Need-returns
 returns c =

@@ -1,4 +1,5 @@
 -- Each way out is one case of what is asked where no field has the name.
+use native.Mathlib.Omega.{arith}
 use mathlib.Core.Path.{sym, _∙_}
 use Rattle.constrain.proofs.Gathering.{ask-present, ask-open, ask-required, ask-optional}
 use borrow.Author.Needs.{needs}
@@ -21,7 +22,7 @@ returns-2 : tie.Need-returns-2
 returns-2 c = ask-open _ _ _ (c .before .enum-told .given .1) (c .if1 .taken)
 
 field-word-requires : tie.Need-field-word-requires
-field-word-requires c κs = search needs
+field-word-requires c κs = let p = c .before .before .before .before .pre in (p .0, (p .1, omega arith))
 
 returns-3 : tie.Need-returns-3
 returns-3 c = ask-required _ _ _ (c .before .before .before .enum-told .given .1) (c .before .before .if1 .left) (sym (c .before .field-word .ensures) ∙ c .if2 .taken)

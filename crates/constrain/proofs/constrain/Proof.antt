@@ -1,7 +1,6 @@
 -- `constrain`: a pair that is neither of equal numbers nor visited.
 use mathlib.Core.Path.{sym, _∙_}
 use Rattle.model.specs.Rules.{pairRule}
-use borrow.Author.Needs.{needs}
 use Rattle.constrain.proofs.constrain.Statement.{statement}
 use Rattle.constrain.proofs.constrain.Tie as tie
 use Rattle.constrain.proofs.constrain.Reads as reads
@@ -10,14 +9,14 @@ use Rattle.constrain.proofs.constrain_concrete.Reads as constrain-concr
 use Rattle.constrain.proofs.is_var.Reads as is-var-reads
 
 is-var-requires : tie.Need-is-var-requires
-is-var-requires c κs = search needs
+is-var-requires c κs = let p = c .before .pre in (p .0, p .1 .1 .0)
 
 returns : tie.Need-returns
 unfolding pairRule
 returns c = record { means = rw (sym (c .before .is-var .ensures) ∙ c .if1 .taken); applies = tt }
 
 is-var-requires-2 : tie.Need-is-var-requires-2
-is-var-requires-2 c κs = search needs
+is-var-requires-2 c κs = let p = c .before .before .before .pre in (p .0, p .1 .1 .1)
 
 returns-2 : tie.Need-returns-2
 unfolding pairRule

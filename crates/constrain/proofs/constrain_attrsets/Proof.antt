@@ -10,10 +10,10 @@ use Rattle.constrain.proofs.gather.Reads as gather-reads
 use Rattle.image.proofs.entry.Reads as entry-reads
 
 entry-requires : tie.Need-entry-requires
-entry-requires c κs = search needs
+entry-requires c κs = let p = c .before .pre in (p .0, p .1 .1 .0)
 
 entry-requires-2 : tie.Need-entry-requires-2
-entry-requires-2 c κs = search needs
+entry-requires-2 c κs = let p = c .before .before .pre in (p .0, p .1 .1 .1)
 
 enum-known-d : tie.Need-enum-known-d
 enum-known-d c = search needs

@@ -14,7 +14,7 @@ use Rattle.constrain.proofs.constrain_functor.Reads as constrain-functo
 use Rattle.constrain.proofs.constrain_lhs_inter.Reads as constrain-lhs-inter-reads
 use Rattle.constrain.proofs.constrain_rhs_union.Reads as constrain-rhs-union-reads
 use Rattle.constrain.proofs.constrain_under_neg.Reads as constrain-under-neg-reads
-use Rattle.constrain.proofs.decide.Reads as decide-reads
+use Rattle.decision.proofs.decide.Reads as decide-reads
 use Rattle.constrain.proofs.words_of.Reads as words-of-reads
 
 decided : (c : lts.After-decide (
@@ -39,10 +39,10 @@ decided c =
     record { good = p .1 .0; sub-there = p .1 .1 .0; sup-there = p .1 .1 .1 .0; sub-words = c .before .before .words-of .ensures; sup-words = c .before .words-of2 .ensures; same = c .decide .ensures .0; fits = c .decide .ensures .1 }
 
 words-of-requires : tie.Need-words-of-requires
-words-of-requires c κs = search needs
+words-of-requires c κs = let p = c .before .pre in (p .0, p .1 .1 .0)
 
 words-of-requires-2 : tie.Need-words-of-requires-2
-words-of-requires-2 c κs = search needs
+words-of-requires-2 c κs = let p = c .before .before .pre in (p .0, p .1 .1 .1 .0)
 
 decide-requires : tie.Need-decide-requires
 decide-requires c κs =
@@ -67,7 +67,7 @@ enum-told-5 : tie.Need-enum-told-5
 enum-told-5 c = search needs
 
 constrain-attrsets-requires : tie.Need-constrain-attrsets-requires
-constrain-attrsets-requires c κs = search needs
+constrain-attrsets-requires c κs = let p = c .before .before .before .before .before .before .pre in (p .0, (p .1 .0, (p .1 .1 .0, p .1 .1 .1 .0)))
 
 enum-told-6 : tie.Need-enum-told-6
 enum-told-6 c = search needs
@@ -111,7 +111,7 @@ enum-told-13 : tie.Need-enum-told-13
 enum-told-13 c = search needs
 
 constrain-functor-requires : tie.Need-constrain-functor-requires
-constrain-functor-requires c κs = search needs
+constrain-functor-requires c κs = let p = c .before .before .before .before .before .before .pre in (p .0, (p .1 .0, p .1 .1 .0))
 
 enum-told-14 : tie.Need-enum-told-14
 enum-told-14 c = search needs

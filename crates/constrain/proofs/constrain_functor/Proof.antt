@@ -12,7 +12,7 @@ use Rattle.disjoint.proofs.functor_of.Reads as functor-of-reads
 use Rattle.image.proofs.field_word.Reads as field-word-reads
 
 functor-of-requires : tie.Need-functor-of-requires
-functor-of-requires c κs = search needs
+functor-of-requires c κs = c .before .pre
 
 enum-known-found : tie.Need-enum-known-found
 enum-known-found c = search needs

@@ -1,6 +1,6 @@
 -- `discriminant_matches`: whether entries a and b have the same kind.
+use native.Mathlib.Omega.{arith}
 use Rattle.model.specs.Table.{is, isAt}
-use borrow.Author.Needs.{needs}
 use Rattle.constrain.proofs.discriminant_matches.Statement.{statement}
 use Rattle.constrain.proofs.discriminant_matches.Tie as tie
 use Rattle.constrain.proofs.discriminant_matches.Reads as reads
@@ -8,10 +8,10 @@ use Rattle.constrain.proofs.discriminant_matches.Lts as lts
 use Rattle.image.proofs.entry_word.Reads as entry-word-reads
 
 entry-word-requires : tie.Need-entry-word-requires
-entry-word-requires c κs = search needs
+entry-word-requires c κs = let p = c .before .pre in (p .0, (p .1 .1, omega arith))
 
 entry-word-requires-2 : tie.Need-entry-word-requires-2
-entry-word-requires-2 c κs = search needs
+entry-word-requires-2 c κs = let p = c .before .before .pre in (p .0, (p .1 .0, omega arith))
 
 returns : tie.Need-returns
 unfolding is isAt

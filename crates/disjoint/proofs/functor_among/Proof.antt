@@ -10,7 +10,7 @@ use Rattle.disjoint.proofs.field_named.Reads as field-named-reads
 use Rattle.image.proofs.functor.Reads as functor-reads
 
 functor-requires : tie.Need-functor-requires
-functor-requires c κs = search needs
+functor-requires c κs = c .before .pre .0
 
 returns : tie.Need-returns
 returns c = unset _ _ _ _ _ (c .before .functor .ensures) (c .if1 .taken)
@@ -19,7 +19,7 @@ sub-field-named : tie.Need-sub-field-named
 sub-field-named c = search needs
 
 field-named-requires : tie.Need-field-named-requires
-field-named-requires c κs = search needs
+field-named-requires c κs = c .before .before .before .pre
 
 returns-2 : tie.Need-returns-2
 returns-2 c = c .field-named .ensures ∙ set _ _ _ _ _ (c .before .before .functor .ensures) (c .before .if1 .left)

@@ -10,7 +10,7 @@ use Rattle.disjoint.proofs.functor_among.Reads as functor-among-reads
 use Rattle.image.proofs.entry.Reads as entry-reads
 
 entry-requires : tie.Need-entry-requires
-entry-requires c κs = search needs
+entry-requires c κs = let p = c .before .pre in (p .0, p .1 .1)
 
 enum-known-e : tie.Need-enum-known-e
 enum-known-e c = search needs

@@ -12,7 +12,7 @@ use Rattle.disjoint.proofs.functor_of.Reads as functor-of-reads
 use Rattle.disjoint.proofs.is_found.Reads as is-found-reads
 
 functor-of-requires : tie.Need-functor-of-requires
-functor-of-requires c κs = search needs
+functor-of-requires c κs = c .before .pre
 
 is-found-requires : tie.Need-is-found-requires
 is-found-requires c κs = search needs

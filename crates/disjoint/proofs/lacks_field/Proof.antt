@@ -1,4 +1,5 @@
 -- `lacks_field`: whether field record j is not optional, and no field of a has its name.
+use native.Mathlib.Omega.{arith}
 use mathlib.Core.Path.{sym, _∙_}
 use Rattle.disjoint.proofs.Shapes.{optional, required}
 use borrow.Author.Needs.{needs}
@@ -11,16 +12,16 @@ use Rattle.disjoint.proofs.is_found.Reads as is-found-reads
 use Rattle.image.proofs.field_word.Reads as field-word-reads
 
 field-word-requires : tie.Need-field-word-requires
-field-word-requires c κs = search needs
+field-word-requires c κs = let p = c .before .pre in (p .0, (p .1 .1, omega arith))
 
 returns : tie.Need-returns
 returns c = optional _ (c .before .before .before .args .a) (c .before .before .before .pre .1 .0) _ (λ q. c .if1 .taken (c .before .field-word .ensures ∙ q))
 
 field-word-requires-2 : tie.Need-field-word-requires-2
-field-word-requires-2 c κs = search needs
+field-word-requires-2 c κs = let p = c .before .before .before .pre in (p .0, (p .1 .1, omega arith))
 
 field-named-requires : tie.Need-field-named-requires
-field-named-requires c κs = search needs
+field-named-requires c κs = let p = c .before .before .before .before .pre in (p .0, p .1 .0)
 
 is-found-requires : tie.Need-is-found-requires
 is-found-requires c κs = search needs

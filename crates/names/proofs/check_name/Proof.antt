@@ -2,7 +2,7 @@
 use borrow.Author.Tests.{lt-ltb, le-ltb}
 use Rattle.model.specs.Lists.{allOf}
 use Rattle.names.specs.Names.{nameCount, nameCall, checkName}
-use Rattle.names.proofs.Laying.{right-laid}
+use Rattle.names.proofs.NamesLaying.{right-laid}
 use Rattle.names.proofs.Tested.{passed, failed}
 use borrow.Author.Needs.{needs}
 use Rattle.names.proofs.check_name.Statement.{statement}

@@ -1,5 +1,5 @@
 -- `names::compare_names` meets its contract: what it lends are the parts of the two names. Assumes nothing.
-use Rattle.names.proofs.Laying.{name-part}
+use Rattle.names.proofs.NamesLaying.{name-part}
 use borrow.Author.Needs.{needs}
 use Rattle.names.proofs.compare_names.Statement.{statement}
 use Rattle.names.proofs.compare_names.Tie as tie

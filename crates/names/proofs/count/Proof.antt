@@ -2,7 +2,7 @@
 use mathlib.Core.Path.{sym, _∙_}
 use Rattle.model.specs.Lists.{allOf}
 use Rattle.names.specs.Names.{nameCall, countNames}
-use Rattle.names.proofs.Laying.{right-laid}
+use Rattle.names.proofs.NamesLaying.{right-laid}
 use borrow.Author.Needs.{needs}
 use Rattle.names.proofs.count.Statement.{statement}
 use Rattle.names.proofs.count.Tie as tie

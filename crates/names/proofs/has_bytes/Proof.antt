@@ -1,5 +1,5 @@
 -- `names::has_bytes` meets its contract: what it lends first is the name's part. Assumes nothing.
-use Rattle.names.proofs.Laying.{name-part}
+use Rattle.names.proofs.NamesLaying.{name-part}
 use borrow.Author.Needs.{needs}
 use Rattle.names.proofs.has_bytes.Statement.{statement}
 use Rattle.names.proofs.has_bytes.Tie as tie

@@ -1,7 +1,7 @@
 -- `names::place` meets its contract: two offsets of a name that `check_name` accepts, or its refusal. Assumes nothing.
 use mathlib.Core.Path.{sym, ap, _∙_}
 use Rattle.model.specs.Told.{toldReply}
-use Rattle.names.proofs.Laying.{right-laid}
+use Rattle.names.proofs.NamesLaying.{right-laid}
 use Rattle.names.proofs.Calling.{named}
 use Rattle.names.proofs.Placing.{placed-at, unplaced}
 use borrow.Author.Needs.{needs}

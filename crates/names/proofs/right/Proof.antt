@@ -4,7 +4,7 @@ use mathlib.Core.Bool.{and-true}
 use borrow.Author.Tests.{leb-true}
 use Rattle.model.specs.Lists.{allOf}
 use Rattle.names.specs.Names.{namesRight}
-use Rattle.names.proofs.Laying.{laid}
+use Rattle.names.proofs.NamesLaying.{laid}
 use Rattle.names.proofs.Tested.{passed, failed}
 use borrow.Author.Needs.{needs}
 use Rattle.names.proofs.right.Statement.{statement}

@@ -5,7 +5,7 @@ use mathlib.Core.List.{[]}
 use mathlib.Core.Bool.{false}
 use Rattle.model.specs.Told.{done, toldReply}
 use Rattle.names.specs.Names.{accepted, checkName, showName, shownAt}
-use Rattle.names.proofs.Laying.{name-part, right-laid}
+use Rattle.names.proofs.NamesLaying.{name-part, right-laid}
 use Rattle.names.proofs.Calling.{named, not-accepted}
 use borrow.Author.Needs.{needs}
 use Rattle.names.proofs.show.Statement.{statement}

@@ -14,30 +14,24 @@ use Rattle.questions.proofs.abandon.Lts as lts
 use Rattle.image.proofs.end_question.Reads as end-question-reads
 use Rattle.image.proofs.is_asked.Reads as is-asked-reads
 
--- src/lib.rt:155:9
 is-asked-requires : tie.Need-is-asked-requires
 is-asked-requires c κs = formed-shown _ (c .before .before .pre)
 
--- src/lib.rt:156:9
 same-length : tie.Need-same-length
 same-length c = search needs
 
--- src/lib.rt:156:9
 returns : tie.Need-returns
 unfolding abandonTurn
 returns c = refused-so _ _ _ (idle-so _ _ (sym (c .before .is-asked .ensures) ∙ not-true _ (c .if1 .taken)))
 
--- src/lib.rt:158:5
 end-question-requires : tie.Need-end-question-requires
 end-question-requires c κs =
     let s = c .before .before .before .before .before in
     while-asked (formed-shown _ (s .pre)) (asked-some (now (s .args .image)) (sym (c .before .before .is-asked .ensures) ∙ not-false _ (c .before .if1 .left)))
 
--- src/lib.rt:150:1
 same-length-2 : tie.Need-same-length-2
 same-length-2 c = search needs
 
--- src/lib.rt:150:1
 returns-2 : tie.Need-returns-2
 unfolding abandonTurn
 returns-2 c = abandoned _ _ (sym (c .before .before .before .before .before .is-asked .ensures) ∙ not-false _ (c .before .before .before .before .if1 .left)) (c .before .before .end-question .ensures .is)

@@ -16,19 +16,15 @@ use Rattle.questions.proofs.fitness.Reads as fitness-reads
 use Rattle.questions.proofs.put_pairs.Reads as put-pairs-reads
 use Rattle.questions.proofs.record_equal.Reads as record-equal-reads
 
--- src/lib.rt:114:9
 fitness-requires : tie.Need-fitness-requires
 fitness-requires c κs = search needs
 
--- src/lib.rt:115:27
 enum-known-fit : tie.Need-enum-known-fit
 enum-known-fit c = search needs
 
--- src/lib.rt:116:9
 same-length : tie.Need-same-length
 same-length c = search needs
 
--- src/lib.rt:116:9
 returns : tie.Need-returns
 returns c =
     let s = c .before .before .before .before .before .before in
@@ -39,7 +35,6 @@ returns c =
 enum-told : tie.Need-enum-told
 enum-told c = search needs
 
--- src/lib.rt:118:5
 record-equal-requires : tie.Need-record-equal-requires
 record-equal-requires c κs =
     let s = c .before .before .before .before .before .before in
@@ -48,7 +43,6 @@ record-equal-requires c κs =
     let f = subst (λ (x : Reply). Fitness w q x) (c .before .enum-told .given .1) (c .before .before .before .fitness .ensures) in
     (formed-shown w (s .pre), f .0 .equals)
 
--- src/lib.rt:119:5
 put-pairs-requires : tie.Need-put-pairs-requires
 put-pairs-requires c κs =
     let s = c .before .before .before .before .before .before .before .before .before .before in
@@ -64,11 +58,9 @@ open-question-requires c κs =
     let p = c .before .before .before .put-pairs .ensures in
     (shown-as p, some-put (s .args .q) _ p)
 
--- src/lib.rt:109:1
 same-length-2 : tie.Need-same-length-2
 same-length-2 c = search needs
 
--- src/lib.rt:109:1
 returns-2 : tie.Need-returns-2
 returns-2 c =
     let s = c .before .before .before .before .before .before .before .before .before .before .before .before .before .before .before .before .before in

@@ -18,64 +18,51 @@ use Rattle.image.proofs.entries_count.Reads as entries-count-reads
 use Rattle.image.proofs.is_asked.Reads as is-asked-reads
 use Rattle.questions.proofs.room_for.Reads as room-for-reads
 
--- src/lib.rt:58:8
 is-asked-requires : tie.Need-is-asked-requires
 is-asked-requires c κs = formed-shown _ (c .before .pre)
 
--- src/lib.rt:59:9
 returns : tie.Need-returns
 returns c = asked-already _ (c .before .before .before .args .q) (sym (c .before .is-asked .ensures) ∙ c .if1 .taken)
 
--- src/lib.rt:61:9
 break-kind-requires : tie.Need-break-kind-requires
 break-kind-requires c κs = formed-laid _ (c .before .before .before .pre)
 
--- src/lib.rt:63:13
 break-sub-requires : tie.Need-break-sub-requires
 break-sub-requires c κs = formed-laid _ (c .before .before .before .before .before .before .pre)
 
--- src/lib.rt:64:13
 break-sup-requires : tie.Need-break-sup-requires
 break-sup-requires c κs = formed-laid _ (c .before .before .before .before .before .before .before .pre)
 
--- src/lib.rt:65:13
 break-name-requires : tie.Need-break-name-requires
 break-name-requires c κs = formed-laid _ (c .before .before .before .before .before .before .before .before .pre)
 
--- src/lib.rt:66:9
 returns-2 : tie.Need-returns-2
 returns-2 c =
     let s = c .before .before .before .before .before .before .before .before .before in
     let q = s .args .q in
     held-broken _ q (sym (c .before .before .before .before .before .before .before .is-asked .ensures) ∙ c .before .before .before .before .before .before .if1 .left) (is-broken (q .held) _ _ (storeOf (now (s .args .image))) (c .before .before .before .before .before .break-kind .ensures) (c .before .before .before .if2 .taken)) _ _ _ _ (c .before .before .before .before .before .break-kind .ensures) (c .before .before .break-sub .ensures) (c .before .break-sup .ensures) (c .break-name .ensures)
 
--- src/lib.rt:73:8
 entries-count-requires : tie.Need-entries-count-requires
 entries-count-requires c κs = formed-laid _ (c .before .before .before .before .before .before .pre)
 
--- src/lib.rt:74:9
 returns-3 : tie.Need-returns-3
 returns-3 c =
     let s = c .before .before .before .before .before .before .before .before .before in
     let q = s .args .q in
     no-first _ q (sym (c .before .before .before .before .before .before .before .is-asked .ensures) ∙ c .before .before .before .before .before .before .if1 .left) (is-broken (q .held) _ _ (storeOf (now (s .args .image))) (c .before .before .before .before .before .break-kind .ensures) (c .before .before .before .if2 .left)) (omega (arith, c .if3 .taken, c .before .before .entries-count .ensures))
 
--- src/lib.rt:76:8
 entries-count-requires-2 : tie.Need-entries-count-requires-2
 entries-count-requires-2 c κs = formed-laid _ (c .before .before .before .before .before .before .before .before .before .pre)
 
--- src/lib.rt:77:9
 returns-4 : tie.Need-returns-4
 returns-4 c =
     let s = c .before .before .before .before .before .before .before .before .before .before .before .before in
     let q = s .args .q in
     no-second _ q (sym (c .before .before .before .before .before .before .before .before .before .before .is-asked .ensures) ∙ c .before .before .before .before .before .before .before .before .before .if1 .left) (is-broken (q .held) _ _ (storeOf (now (s .args .image))) (c .before .before .before .before .before .before .before .before .break-kind .ensures) (c .before .before .before .before .before .before .if2 .left)) (omega (arith, c .if4 .taken, c .before .before .entries-count2 .ensures))
 
--- src/lib.rt:79:5
 room-for-requires : tie.Need-room-for-requires
 room-for-requires c κs = search needs
 
--- src/lib.rt:54:1
 returns-5 : tie.Need-returns-5
 returns-5 c =
     let s = c .before .before .before .before .before .before .before .before .before .before .before .before .before in

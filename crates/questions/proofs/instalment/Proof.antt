@@ -19,42 +19,33 @@ Inv-loop image₀ budget steps₀ image steps = Running image₀ budget steps im
 abbrev μ-loop : tie.MeasureT-loop
 μ-loop image₀ budget steps₀ image steps = budget - steps
 
--- src/lib.rt:101:5
 loop-holds : tie.Need-loop-holds Inv-loop μ-loop
 loop-holds c = (running-start _ _ (c .before .pre), refl)
 
--- src/lib.rt:101:15
 pending-count-requires : tie.Need-pending-count-requires Inv-loop μ-loop
 pending-count-requires c κs = formed-laid _ (c .before .loop .inv .0 .formed)
 
--- src/lib.rt:103:13
 same-length : tie.Need-same-length Inv-loop μ-loop
 same-length c = c .before .before .before .before .loop .inv .1
 
--- src/lib.rt:103:13
 returns : tie.Need-returns Inv-loop μ-loop
 returns c =
     let k = running-more _ _ _ _ (c .before .before .before .before .loop .inv .0) (omega (arith, c .before .if1 .taken, c .before .before .pending-count .ensures)) (c .if2 .taken) in
     (k .says, (k .steps, k .leaves))
 
--- src/lib.rt:108:13
 take-step-requires : tie.Need-take-step-requires Inv-loop μ-loop
 take-step-requires c κs =
     (c .before .before .before .before .before .loop .inv .0 .formed, omega (arith, c .before .before .if1 .taken, c .before .before .before .pending-count .ensures))
 
--- src/lib.rt:111:17
 enum-told : tie.Need-enum-told Inv-loop μ-loop
 enum-told c = search needs
 
--- src/lib.rt:111:17
 add-steps : tie.Need-add-steps Inv-loop μ-loop
 add-steps c = search needs
 
--- src/lib.rt:101:5
 loop-less : tie.Need-loop-less Inv-loop μ-loop
 loop-less c = search needs
 
--- src/lib.rt:101:5
 loop-again : tie.Need-loop-again Inv-loop μ-loop
 loop-again c =
     let e = sym (c .enum-told .given .1) ∙ c .before .before .before .before .take-step .ensures .0 in
@@ -62,19 +53,15 @@ loop-again c =
     let h = c .before .before .before .before .before .before .before .before .before .before .loop .inv in
     (running-went _ _ _ _ (h .0) (omega (arith, c .before .before .before .before .before .before .before .if1 .taken, c .before .before .before .before .before .before .before .before .pending-count .ensures)) (omega (arith, c .before .before .before .before .before .before .if2 .left, h .0 .low)) _ k, search needs)
 
--- src/lib.rt:113:26
 enum-known-step : tie.Need-enum-known-step Inv-loop μ-loop
 enum-known-step c = search needs
 
--- src/lib.rt:116:28
 add-t15 : tie.Need-add-t15 Inv-loop μ-loop
 add-t15 c = search needs
 
--- src/lib.rt:114:17
 same-length-2 : tie.Need-same-length-2 Inv-loop μ-loop
 same-length-2 c = search needs
 
--- src/lib.rt:114:17
 returns-2 : tie.Need-returns-2 Inv-loop μ-loop
 returns-2 c =
     let e = sym (c .before .step .given .1) ∙ c .before .before .before .before .before .take-step .ensures .0 in
@@ -83,15 +70,12 @@ returns-2 c =
     let k = running-failed _ _ _ _ (h .0) (omega (arith, c .before .before .before .before .before .before .before .before .if1 .taken, c .before .before .before .before .before .before .before .before .before .pending-count .ensures)) (omega (arith, c .before .before .before .before .before .before .before .if2 .left, h .0 .low)) _ _ x in
     (k .says, (k .steps, k .leaves))
 
--- src/lib.rt:119:27
 enum-known-step-2 : tie.Need-enum-known-step-2 Inv-loop μ-loop
 enum-known-step-2 c = search needs
 
--- src/lib.rt:120:17
 same-length-3 : tie.Need-same-length-3 Inv-loop μ-loop
 same-length-3 c = search needs
 
--- src/lib.rt:120:17
 returns-3 : tie.Need-returns-3 Inv-loop μ-loop
 returns-3 c =
     let e = sym (c .before .step2 .given .1) ∙ c .before .before .before .before .before .take-step .ensures .0 in
@@ -100,11 +84,9 @@ returns-3 c =
     let k = running-refused _ _ _ _ (h .0) (omega (arith, c .before .before .before .before .before .before .before .before .if1 .taken, c .before .before .before .before .before .before .before .before .before .pending-count .ensures)) (omega (arith, c .before .before .before .before .before .before .before .if2 .left, h .0 .low)) _ _ x in
     (k .says, (k .steps, k .leaves))
 
--- src/lib.rt:94:1
 same-length-4 : tie.Need-same-length-4 Inv-loop μ-loop
 same-length-4 c = search needs
 
--- src/lib.rt:94:1
 returns-4 : tie.Need-returns-4 Inv-loop μ-loop
 returns-4 c =
     let k = running-yes _ _ _ _ (c .before .before .before .loop .inv .0) (omega (arith, c .if1 .left, c .before .pending-count .ensures)) in

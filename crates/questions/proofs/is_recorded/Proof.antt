@@ -6,7 +6,6 @@ use Rattle.questions.proofs.is_recorded.Tie as tie
 use Rattle.questions.proofs.is_recorded.Reads as reads
 use Rattle.questions.proofs.is_recorded.Lts as lts
 
--- src/lib.rt:23:1
 returns : tie.Need-returns
 unfolding isRecorded
 returns c = refl

@@ -5,12 +5,10 @@ use Rattle.questions.proofs.pairs_of.Tie as tie
 use Rattle.questions.proofs.pairs_of.Reads as reads
 use Rattle.questions.proofs.pairs_of.Lts as lts
 
--- src/lib.rt:30:1
 returns : tie.Need-returns
 unfolding pairsOf
 returns c = rw (c .if1 .taken)
 
--- src/lib.rt:30:1
 returns-2 : tie.Need-returns-2
 unfolding pairsOf
 returns-2 c = rw (c .if1 .left)

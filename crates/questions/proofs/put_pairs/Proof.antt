@@ -9,40 +9,33 @@ use Rattle.questions.proofs.put_pairs.Reads as reads
 use Rattle.questions.proofs.put_pairs.Lts as lts
 use Rattle.image.proofs.put_asked.Reads as put-asked-reads
 
--- src/lib.rt:101:9
 put-asked-requires : tie.Need-put-asked-requires
 put-asked-requires c κs =
     let s = c .before .before .before .before in
     (s .pre .0, one-pair-fits (s .args .q) _ (s .pre .1) (not-true _ (c .before .if1 .taken)))
 
--- src/lib.rt:102:9
 same-length : tie.Need-same-length
 same-length c = search needs
 
--- src/lib.rt:102:9
 returns : tie.Need-returns
 returns c =
     let s = c .before .before .before .before .before .before .before in
     one-put (s .args .q) _ _ (not-true _ (c .before .before .before .before .if1 .taken)) (c .before .before .put-asked .ensures)
 
--- src/lib.rt:104:5
 put-asked-requires-2 : tie.Need-put-asked-requires-2
 put-asked-requires-2 c κs =
     let s = c .before .before .before .before in
     (s .pre .0, first-fits (s .args .q) _ (s .pre .1) (not-false _ (c .before .if1 .left)))
 
--- src/lib.rt:105:5
 put-asked-requires-3 : tie.Need-put-asked-requires-3
 put-asked-requires-3 c κs =
     let s = c .before .before .before .before .before .before .before .before in
     let k = c .before .before .before .put-asked2 .ensures in
     (shown-as k, second-fits (s .args .q) _ (s .pre .1) _ k (not-false _ (c .before .before .before .before .before .if1 .left)))
 
--- src/lib.rt:95:1
 same-length-2 : tie.Need-same-length-2
 same-length-2 c = search needs
 
--- src/lib.rt:95:1
 returns-2 : tie.Need-returns-2
 returns-2 c =
     let s = c .before .before .before .before .before .before .before .before .before .before .before in

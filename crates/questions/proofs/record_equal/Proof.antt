@@ -10,27 +10,22 @@ use Rattle.questions.proofs.record_equal.Lts as lts
 use Rattle.image.proofs.push_equal.Reads as push-equal-reads
 use Rattle.questions.proofs.is_recorded.Reads as is-recorded-reads
 
--- src/lib.rt:88:9
 is-recorded-requires : tie.Need-is-recorded-requires
 is-recorded-requires c κs = search needs
 
--- src/lib.rt:89:9
 returns : tie.Need-returns
 returns c =
     let s = c .before .before .before in
     none-recorded _ (s .args .q) (sym (c .before .is-recorded .ensures) ∙ not-true _ (c .if1 .taken)) (s .pre .0)
 
--- src/lib.rt:91:5
 push-equal-requires : tie.Need-push-equal-requires
 push-equal-requires c κs =
     let s = c .before .before .before .before in
     (s .pre .0, one-fits _ (s .args .q) (sym (c .before .before .is-recorded .ensures) ∙ not-false _ (c .before .if1 .left)) (s .pre .1))
 
--- src/lib.rt:83:1
 same-length : tie.Need-same-length
 same-length c = search needs
 
--- src/lib.rt:83:1
 returns-2 : tie.Need-returns-2
 returns-2 c =
     let s = c .before .before .before .before .before .before .before in

@@ -15,45 +15,36 @@ use Rattle.image.proofs.pending_capacity.Reads as pending-capacity-reads
 use Rattle.questions.proofs.is_recorded.Reads as is-recorded-reads
 use Rattle.questions.proofs.pairs_of.Reads as pairs-of-reads
 
--- src/lib.rt:41:8
 pending-capacity-requires : tie.Need-pending-capacity-requires
 pending-capacity-requires c κs = formed-laid _ (c .before .pre)
 
--- src/lib.rt:41:41
 pairs-of-requires : tie.Need-pairs-of-requires
 pairs-of-requires c κs = search needs
 
--- src/lib.rt:42:9
 returns : tie.Need-returns
 returns c =
     let s = c .before .before .before .before in
     no-pending _ (s .pre) (s .args .q) (omega (arith, c .if1 .taken, c .before .pairs-of .ensures, c .before .before .pending-capacity .ensures))
 
--- src/lib.rt:44:9
 is-recorded-requires : tie.Need-is-recorded-requires
 is-recorded-requires c κs = search needs
 
--- src/lib.rt:45:9
 returns-2 : tie.Need-returns-2
 returns-2 c =
     let s = c .before .before .before .before .before .before in
     room-plain _ (s .pre) (s .args .q) (omega (arith, c .before .before .if1 .left, c .before .before .before .pairs-of .ensures, c .before .before .before .before .pending-capacity .ensures)) (sym (c .before .is-recorded .ensures) ∙ not-true _ (c .if2 .taken))
 
--- src/lib.rt:47:8
 equals-capacity-requires : tie.Need-equals-capacity-requires
 equals-capacity-requires c κs = formed-laid _ (c .before .before .before .before .before .before .pre)
 
--- src/lib.rt:47:41
 equals-count-requires : tie.Need-equals-count-requires
 equals-count-requires c κs = formed-laid _ (c .before .before .before .before .before .before .before .pre)
 
--- src/lib.rt:48:9
 returns-3 : tie.Need-returns-3
 returns-3 c =
     let s = c .before .before .before .before .before .before .before .before .before in
     no-equals _ (s .pre) (s .args .q) (omega (arith, c .before .before .before .before .before .if1 .left, c .before .before .before .before .before .before .pairs-of .ensures, c .before .before .before .before .before .before .before .pending-capacity .ensures)) (sym (c .before .before .before .before .is-recorded .ensures) ∙ not-false _ (c .before .before .before .if2 .left)) (omega (arith, c .if3 .taken, c .before .equals-count .ensures, c .before .before .equals-capacity .ensures))
 
--- src/lib.rt:37:1
 returns-4 : tie.Need-returns-4
 returns-4 c =
     let s = c .before .before .before .before .before .before .before .before .before in

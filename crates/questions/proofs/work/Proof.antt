@@ -12,27 +12,21 @@ use Rattle.questions.proofs.work.Lts as lts
 use Rattle.image.proofs.is_asked.Reads as is-asked-reads
 use Rattle.questions.proofs.instalment.Reads as instalment-reads
 
--- src/lib.rt:118:9
 is-asked-requires : tie.Need-is-asked-requires
 is-asked-requires c κs = formed-shown _ (c .before .before .pre)
 
--- src/lib.rt:119:9
 same-length : tie.Need-same-length
 same-length c = search needs
 
--- src/lib.rt:119:9
 returns : tie.Need-returns
 returns c = work-idle _ _ (sym (c .before .is-asked .ensures) ∙ not-true _ (c .if1 .taken))
 
--- src/lib.rt:124:5
 instalment-requires : tie.Need-instalment-requires
 instalment-requires c κs = search needs
 
--- src/lib.rt:112:1
 same-length-2 : tie.Need-same-length-2
 same-length-2 c = search needs
 
--- src/lib.rt:112:1
 returns-2 : tie.Need-returns-2
 returns-2 c =
     let k = c .before .before .instalment .ensures in

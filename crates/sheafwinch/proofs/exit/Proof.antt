@@ -2,7 +2,7 @@
 use denote.Ref.{now}
 use borrow.Author.Needs.{needs}
 use Rattle.model.specs.Calls.{turnOf, exits}
-use Rattle.sheafwinch.proofs.Turning.{refused-as, as-same, unfit, good-image, good}
+use Rattle.turns.proofs.Turning.{refused-as, as-same, unfit, good-image, good}
 use Rattle.sheafwinch.proofs.exit.Statement.{statement}
 use Rattle.sheafwinch.proofs.exit.Tie as tie
 

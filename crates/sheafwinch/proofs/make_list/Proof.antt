@@ -3,7 +3,7 @@ use native.Mathlib.Omega.{arith}
 use denote.Ref.{now}
 use borrow.Author.Needs.{needs}
 use Rattle.model.specs.Calls.{turnOf, makesList}
-use Rattle.sheafwinch.proofs.Turning.{refused-as, as-same, unfit, good-image, good}
+use Rattle.turns.proofs.Turning.{refused-as, as-same, unfit, good-image, good}
 use Rattle.sheafwinch.proofs.make_list.Statement.{statement}
 use Rattle.sheafwinch.proofs.make_list.Tie as tie
 

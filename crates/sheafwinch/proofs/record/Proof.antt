@@ -3,7 +3,7 @@ use mathlib.Core.Path.{_∙_, ap}
 use denote.Ref.{now}
 use borrow.Author.Needs.{needs}
 use Rattle.model.specs.Calls.{Reply, replyOf, turnOf, readsRecord}
-use Rattle.sheafwinch.proofs.Turning.{unfit, good-image, good}
+use Rattle.turns.proofs.Turning.{unfit, good-image, good}
 use Rattle.sheafwinch.proofs.record.Statement.{statement}
 use Rattle.sheafwinch.proofs.record.Tie as tie
 

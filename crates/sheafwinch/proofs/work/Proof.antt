@@ -3,7 +3,7 @@ use mathlib.Core.Path.{_∙_, ap}
 use denote.Ref.{now}
 use borrow.Author.Needs.{needs}
 use Rattle.model.specs.Calls.{Reply, replyOf, turnOf, works}
-use Rattle.sheafwinch.proofs.Turning.{refused-as, as-same, unfit, good-image, good}
+use Rattle.turns.proofs.Turning.{refused-as, as-same, unfit, good-image, good}
 use Rattle.sheafwinch.proofs.work.Statement.{statement}
 use Rattle.sheafwinch.proofs.work.Tie as tie
 

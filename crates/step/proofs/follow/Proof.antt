@@ -14,45 +14,36 @@ use Rattle.step.proofs.count_of.Reads as count-of-reads
 use Rattle.step.proofs.put_pairs.Reads as put-pairs-reads
 use Rattle.step.proofs.room_for.Reads as room-for-reads
 
--- src/lib.rt:229:32
 count-of-requires : tie.Need-count-of-requires
 count-of-requires c κs = search needs
 
--- src/lib.rt:229:9
 room-for-requires : tie.Need-room-for-requires
 room-for-requires c κs = search needs
 
--- src/lib.rt:230:24
 enum-known-room : tie.Need-enum-known-room
 enum-known-room c = search needs
 
--- src/lib.rt:231:9
 same-length : tie.Need-same-length
 same-length c = search needs
 
--- src/lib.rt:231:9
 returns : tie.Need-returns
 returns c = follow-refused _ _ (c .before .before .before .before .before .before .before .args .pairs) (c .before .before .before .before .before .before .before .pre .1 .1) _ (c .before .before .before .before .count-of .ensures) _ (c .before .before .before .room-for .ensures) _ (c .before .room .given .1)
 
 enum-told : tie.Need-enum-told
 enum-told c = search needs
 
--- src/lib.rt:233:5
 advance-requires : tie.Need-advance-requires
 advance-requires c κs = (formed-shown _ (c .before .before .before .before .before .before .before .pre .0), (visited-room _ _ _ _ (c .before .enum-told .given .1) (c .before .before .before .room-for .ensures), c .before .before .before .before .before .before .before .pre .1 .0))
 
--- src/lib.rt:234:5
 put-pairs-requires : tie.Need-put-pairs-requires
 put-pairs-requires c κs = follow-needs _ _ (c .before .before .before .before .before .before .before .before .before .before .before .args .pairs) (c .before .before .before .before .before .before .before .before .before .before .before .pre .1 .1) _ (c .before .before .before .before .before .before .before .before .count-of .ensures) _ (c .before .before .before .before .before .before .before .room-for .ensures) (c .before .before .before .before .before .enum-told .given .1) _ (c .before .before .before .advance .ensures)
 
 end-if-done-requires : tie.Need-end-if-done-requires
 end-if-done-requires c κs = shown-as (c .before .before .before .put-pairs .ensures)
 
--- src/lib.rt:222:1
 same-length-2 : tie.Need-same-length-2
 same-length-2 c = search needs
 
--- src/lib.rt:222:1
 returns-2 : tie.Need-returns-2
 returns-2 c = follow-went _ _ (c .before .before .before .before .before .before .before .before .before .before .before .before .before .before .before .before .before .before .args .pairs) (c .before .before .before .before .before .before .before .before .before .before .before .before .before .before .before .before .before .before .pre .1 .1) _ (c .before .before .before .before .before .before .before .before .before .before .before .before .before .before .before .count-of .ensures) _ (c .before .before .before .before .before .before .before .before .before .before .before .before .before .before .room-for .ensures) (c .before .before .before .before .before .before .before .before .before .before .before .before .enum-told .given .1) _ (c .before .before .before .before .before .before .before .before .before .before .advance .ensures) _ (stated (c .before .before .before .before .before .before .put-pairs .ensures) (c .before .before .end-if-done .ensures))
 

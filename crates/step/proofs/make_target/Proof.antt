@@ -22,8 +22,8 @@ returns c =
     let p = c .before .before .before .before .before .before .before .pre in
     full-negation _ _ _ (p .0) (p .1 .0) (p .1 .1 .0) (p .1 .1 .1) _ _ (c .before .before .before .before .negate .ensures) (c .enum-told .given .1)
 
-union-member-requires : tie.Need-union-member-requires
-union-member-requires c κs =
+union-contains-member-requires : tie.Need-union-contains-member-requires
+union-contains-member-requires c κs =
     let p = c .before .before .before .before .before .before .before .before .before .pre in
     target-asks _ _ _ (p .0) (p .1 .0) (p .1 .1 .0) (p .1 .1 .1) _ _ (c .before .before .before .before .before .before .negate .ensures) _ (c .before .before .n .given .1)
 
@@ -33,7 +33,7 @@ same-length-2 c = search needs
 returns-2 : tie.Need-returns-2
 returns-2 c =
     let p = c .before .before .before .before .before .before .before .before .before .before .before .pre in
-    target-old _ _ _ (p .0) (p .1 .0) (p .1 .1 .0) (p .1 .1 .1) _ _ (c .before .before .before .before .before .before .before .before .negate .ensures) _ (c .before .before .before .before .n .given .1) _ (c .before .union-member .ensures) (c .if1 .taken)
+    target-old _ _ _ (p .0) (p .1 .0) (p .1 .1 .0) (p .1 .1 .1) _ _ (c .before .before .before .before .before .before .before .before .negate .ensures) _ (c .before .before .before .before .n .given .1) _ (c .before .union-contains-member .ensures) (c .if1 .taken)
 
 entries-count-requires : tie.Need-entries-count-requires
 entries-count-requires c κs =
@@ -51,7 +51,7 @@ same-length-3 c = search needs
 returns-3 : tie.Need-returns-3
 returns-3 c =
     let p = c .before .before .before .before .before .before .before .before .before .before .before .before .before .before .before .before .pre in
-    target-none _ _ _ (p .0) (p .1 .0) (p .1 .1 .0) (p .1 .1 .1) _ _ (c .before .before .before .before .before .before .before .before .before .before .before .before .before .negate .ensures) _ (c .before .before .before .before .before .before .before .before .before .n .given .1) _ (c .before .before .before .before .before .before .union-member .ensures) (c .before .before .before .before .before .if1 .left) _ _ (c .before .before .before .entries-count .ensures) (c .before .entries-capacity .ensures) (c .if2 .taken)
+    target-none _ _ _ (p .0) (p .1 .0) (p .1 .1 .0) (p .1 .1 .1) _ _ (c .before .before .before .before .before .before .before .before .before .before .before .before .before .negate .ensures) _ (c .before .before .before .before .before .before .before .before .before .n .given .1) _ (c .before .before .before .before .before .before .union-contains-member .ensures) (c .before .before .before .before .before .if1 .left) _ _ (c .before .before .before .entries-count .ensures) (c .before .entries-capacity .ensures) (c .if2 .taken)
 
 entry-word-requires : tie.Need-entry-word-requires
 entry-word-requires c κs =
@@ -76,7 +76,7 @@ add-spread-2 c =
 push-entry-requires : tie.Need-push-entry-requires
 push-entry-requires c κs =
     let p = c .before .before .before .before .before .before .before .before .before .before .before .before .before .before .before .before .before .before .before .before .before .pre in
-    target-room _ _ _ (p .0) (p .1 .0) (p .1 .1 .0) (p .1 .1 .1) _ _ (c .before .before .before .before .before .before .before .before .before .before .before .before .before .before .before .before .before .before .negate .ensures) _ (c .before .before .before .before .before .before .before .before .before .before .before .before .before .before .n .given .1) _ (c .before .before .before .before .before .before .before .before .before .before .before .union-member .ensures) (c .before .before .before .before .before .before .before .before .before .before .if1 .left) _ _ (c .before .before .before .before .before .before .before .before .entries-count .ensures) (c .before .before .before .before .before .before .entries-capacity .ensures) (c .before .before .before .before .before .if2 .left)
+    target-room _ _ _ (p .0) (p .1 .0) (p .1 .1 .0) (p .1 .1 .1) _ _ (c .before .before .before .before .before .before .before .before .before .before .before .before .before .before .before .before .before .before .negate .ensures) _ (c .before .before .before .before .before .before .before .before .before .before .before .before .before .before .n .given .1) _ (c .before .before .before .before .before .before .before .before .before .before .before .union-contains-member .ensures) (c .before .before .before .before .before .before .before .before .before .before .if1 .left) _ _ (c .before .before .before .before .before .before .before .before .entries-count .ensures) (c .before .before .before .before .before .before .entries-capacity .ensures) (c .before .before .before .before .before .if2 .left)
 
 same-length-4 : tie.Need-same-length-4
 same-length-4 c = search needs
@@ -84,7 +84,7 @@ same-length-4 c = search needs
 returns-4 : tie.Need-returns-4
 returns-4 c =
     let p = c .before .before .before .before .before .before .before .before .before .before .before .before .before .before .before .before .before .before .before .before .before .before .before .before .pre in
-    target-new _ _ _ (p .0) (p .1 .0) (p .1 .1 .0) (p .1 .1 .1) _ _ (c .before .before .before .before .before .before .before .before .before .before .before .before .before .before .before .before .before .before .before .before .before .negate .ensures) _ (c .before .before .before .before .before .before .before .before .before .before .before .before .before .before .before .before .before .n .given .1) _ (c .before .before .before .before .before .before .before .before .before .before .before .before .before .before .union-member .ensures) (c .before .before .before .before .before .before .before .before .before .before .before .before .before .if1 .left) _ _ (c .before .before .before .before .before .before .before .before .before .before .before .entries-count .ensures) (c .before .before .before .before .before .before .before .before .before .entries-capacity .ensures) (c .before .before .before .before .before .before .before .before .if2 .left) _ _ (c .before .before .before .before .before .before .entry-word .ensures) (c .before .before .before .before .entry-word2 .ensures) _ (c .before .before .push-entry .ensures)
+    target-new _ _ _ (p .0) (p .1 .0) (p .1 .1 .0) (p .1 .1 .1) _ _ (c .before .before .before .before .before .before .before .before .before .before .before .before .before .before .before .before .before .before .before .before .before .negate .ensures) _ (c .before .before .before .before .before .before .before .before .before .before .before .before .before .before .before .before .before .n .given .1) _ (c .before .before .before .before .before .before .before .before .before .before .before .before .before .before .union-contains-member .ensures) (c .before .before .before .before .before .before .before .before .before .before .before .before .before .if1 .left) _ _ (c .before .before .before .before .before .before .before .before .before .before .before .entries-count .ensures) (c .before .before .before .before .before .before .before .before .before .entries-capacity .ensures) (c .before .before .before .before .before .before .before .before .if2 .left) _ _ (c .before .before .before .before .before .before .entry-word .ensures) (c .before .before .before .before .entry-word2 .ensures) _ (c .before .before .push-entry .ensures)
 
 pub make-target-spec : {M : Type 1} → statement M
 make-target-spec =
@@ -95,7 +95,7 @@ make-target-spec =
     enum-told
     same-length
     returns
-    union-member-requires
+    union-contains-member-requires
     same-length-2
     returns-2
     entries-count-requires

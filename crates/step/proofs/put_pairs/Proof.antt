@@ -11,59 +11,45 @@ use Rattle.step.proofs.put_field_pairs.Reads as put-field-pairs-reads
 enum-told : tie.Need-enum-told
 enum-told c = search needs
 
--- src/lib.rt:212:20
 enum-known-pairs : tie.Need-enum-known-pairs
 enum-known-pairs c = search needs
 
--- src/lib.rt:212:29
 put-consequence-requires : tie.Need-put-consequence-requires
 put-consequence-requires c κs = (c .before .before .before .before .before .pre .0, one-fits _ _ _ _ (c .before .before .pairs .given .1) (c .before .before .before .before .before .pre .1 .1))
 
--- src/lib.rt:213:20
 enum-known-pairs-2 : tie.Need-enum-known-pairs-2
 enum-known-pairs-2 c = search needs
 
--- src/lib.rt:214:13
 put-consequence-requires-2 : tie.Need-put-consequence-requires-2
 put-consequence-requires-2 c κs = (c .before .before .before .before .before .pre .0, two-fit _ _ _ _ _ _ (c .before .before .pairs2 .given .1) (c .before .before .before .before .before .pre .1 .1))
 
--- src/lib.rt:215:13
 put-consequence-requires-3 : tie.Need-put-consequence-requires-3
 put-consequence-requires-3 c κs = second-fits _ _ _ _ _ _ (c .before .before .before .before .before .before .pairs2 .given .1) _ (c .before .before .before .put-consequence2 .ensures) (c .before .before .before .before .before .before .before .before .before .pre .1 .1)
 
--- src/lib.rt:217:23
 enum-known-pairs-3 : tie.Need-enum-known-pairs-3
 enum-known-pairs-3 c = search needs
 
--- src/lib.rt:217:35
 put-field-pairs-requires : tie.Need-put-field-pairs-requires
 put-field-pairs-requires c κs = fields-fit _ _ _ _ _ (c .before .before .pairs3 .given .1) (c .before .before .before .before .before .pre .0) (c .before .before .before .before .before .pre .1 .0) (c .before .before .before .before .before .pre .1 .1)
 
--- src/lib.rt:204:1
 returns : tie.Need-returns
 returns c = put-none _ _ (c .enum-told .given .1) (c .before .before .before .pre .0)
 
--- src/lib.rt:204:1
 same-length : tie.Need-same-length
 same-length c = search needs
 
--- src/lib.rt:204:1
 returns-2 : tie.Need-returns-2
 returns-2 c = put-one _ _ _ _ (c .before .before .before .before .before .pairs .given .1) _ (c .before .before .put-consequence .ensures)
 
--- src/lib.rt:204:1
 same-length-2 : tie.Need-same-length-2
 same-length-2 c = search needs
 
--- src/lib.rt:204:1
 returns-3 : tie.Need-returns-3
 returns-3 c = put-two _ _ _ _ _ _ (c .before .before .before .before .before .before .before .before .before .pairs2 .given .1) _ (c .before .before .before .before .before .before .put-consequence2 .ensures) _ (c .before .before .put-consequence3 .ensures)
 
--- src/lib.rt:204:1
 same-length-3 : tie.Need-same-length-3
 same-length-3 c = search needs
 
--- src/lib.rt:204:1
 returns-4 : tie.Need-returns-4
 returns-4 c = put-fields _ _ _ _ _ (c .before .before .before .before .before .pairs3 .given .1) _ (c .before .before .put-field-pairs .ensures)
 

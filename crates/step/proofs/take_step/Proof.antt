@@ -18,67 +18,52 @@ use Rattle.image.proofs.visited_has.Reads as visited-has-reads
 use Rattle.step.proofs.apply.Reads as apply-reads
 use Rattle.step.proofs.skip.Reads as skip-reads
 
--- src/lib.rt:482:16
 pending-count-requires : tie.Need-pending-count-requires
 pending-count-requires c κs = formed-laid _ (c .before .before .pre .0)
 
--- src/lib.rt:482:16
 sub-last : tie.Need-sub-last
 sub-last c = omega (arith, c .pending-count .ensures, c .before .before .before .pre .1)
 
--- src/lib.rt:483:9
 pending-word-requires : tie.Need-pending-word-requires
 pending-word-requires c κs = (formed-laid _ (c .before .before .before .before .pre .0), (omega (arith, c .before .pending-count .ensures, c .before .before .before .before .pre .1), omega arith))
 
--- src/lib.rt:484:9
 pending-word-requires-2 : tie.Need-pending-word-requires-2
 pending-word-requires-2 c κs = (formed-laid _ (c .before .before .before .before .before .before .pre .0), (omega (arith, c .before .before .before .pending-count .ensures, c .before .before .before .before .before .before .pre .1), omega arith))
 
--- src/lib.rt:486:9
 skip-requires : tie.Need-skip-requires
 skip-requires c κs = (formed-shown _ (c .before .before .before .before .before .before .before .before .before .pre .0), c .before .before .before .before .before .before .before .before .before .pre .1)
 
--- src/lib.rt:487:9
 same-length : tie.Need-same-length
 same-length c = search needs
 
--- src/lib.rt:487:9
 returns : tie.Need-returns
 returns c = step-equal _ (c .before .before .before .before .before .before .before .before .before .before .before .before .pre .0) (c .before .before .before .before .before .before .before .before .before .before .before .before .pre .1) _ _ (last-sub (pendingIn (now (c .before .before .before .before .before .before .before .before .before .before .before .before .args .image))) _ _ (c .before .before .before .before .before .before .before .before .before .pending-count .ensures) (c .before .before .before .before .before .before .before .pending-word .ensures)) (last-sup (pendingIn (now (c .before .before .before .before .before .before .before .before .before .before .before .before .args .image))) _ _ (c .before .before .before .before .before .before .before .before .before .pending-count .ensures) (c .before .before .before .before .before .pending-word2 .ensures)) _ (c .before .before .skip .ensures) (c .before .before .before .before .if1 .taken)
 
--- src/lib.rt:489:8
 visited-has-requires : tie.Need-visited-has-requires
 visited-has-requires c κs = formed-laid _ (c .before .before .before .before .before .before .before .before .before .pre .0)
 
--- src/lib.rt:490:9
 skip-requires-2 : tie.Need-skip-requires-2
 skip-requires-2 c κs = (formed-shown _ (c .before .before .before .before .before .before .before .before .before .before .before .before .pre .0), c .before .before .before .before .before .before .before .before .before .before .before .before .pre .1)
 
--- src/lib.rt:491:9
 same-length-2 : tie.Need-same-length-2
 same-length-2 c = search needs
 
--- src/lib.rt:491:9
 returns-2 : tie.Need-returns-2
 returns-2 c = step-visited _ (c .before .before .before .before .before .before .before .before .before .before .before .before .before .before .before .pre .0) (c .before .before .before .before .before .before .before .before .before .before .before .before .before .before .before .pre .1) _ _ (last-sub (pendingIn (now (c .before .before .before .before .before .before .before .before .before .before .before .before .before .before .before .args .image))) _ _ (c .before .before .before .before .before .before .before .before .before .before .before .before .pending-count .ensures) (c .before .before .before .before .before .before .before .before .before .before .pending-word .ensures)) (last-sup (pendingIn (now (c .before .before .before .before .before .before .before .before .before .before .before .before .before .before .before .args .image))) _ _ (c .before .before .before .before .before .before .before .before .before .before .before .before .pending-count .ensures) (c .before .before .before .before .before .before .before .before .pending-word2 .ensures)) _ (c .before .before .skip2 .ensures) (sym (c .before .before .before .before .before .visited-has .ensures) ∙ c .before .before .before .before .if2 .taken)
 
--- src/lib.rt:493:9
 constrain-requires : tie.Need-constrain-requires
 constrain-requires c κs =
     let k = last-known _ (c .before .before .before .before .before .before .before .before .before .before .before .before .pre .0) (c .before .before .before .before .before .before .before .before .before .before .before .before .pre .1) _ _ (last-sub (pendingIn (now (c .before .before .before .before .before .before .before .before .before .before .before .before .args .image))) _ _ (c .before .before .before .before .before .before .before .before .before .pending-count .ensures) (c .before .before .before .before .before .before .before .pending-word .ensures)) (last-sup (pendingIn (now (c .before .before .before .before .before .before .before .before .before .before .before .before .args .image))) _ _ (c .before .before .before .before .before .before .before .before .before .pending-count .ensures) (c .before .before .before .before .before .pending-word2 .ensures)) in
     (formed-laid _ (c .before .before .before .before .before .before .before .before .before .before .before .before .pre .0), (sound-table _ (c .before .before .before .before .before .before .before .before .before .before .before .before .pre .0) .store .good, (k .0, k .1)))
 
--- src/lib.rt:494:5
 apply-requires : tie.Need-apply-requires
 apply-requires c κs =
     let k = last-known _ (c .before .before .before .before .before .before .before .before .before .before .before .before .before .before .pre .0) (c .before .before .before .before .before .before .before .before .before .before .before .before .before .before .pre .1) _ _ (last-sub (pendingIn (now (c .before .before .before .before .before .before .before .before .before .before .before .before .before .before .args .image))) _ _ (c .before .before .before .before .before .before .before .before .before .before .before .pending-count .ensures) (c .before .before .before .before .before .before .before .before .before .pending-word .ensures)) (last-sup (pendingIn (now (c .before .before .before .before .before .before .before .before .before .before .before .before .before .before .args .image))) _ _ (c .before .before .before .before .before .before .before .before .before .before .before .pending-count .ensures) (c .before .before .before .before .before .before .before .pending-word2 .ensures)) in
     (c .before .before .before .before .before .before .before .before .before .before .before .before .before .before .pre .0, (c .before .before .before .before .before .before .before .before .before .before .before .before .before .before .pre .1, (k .0, (k .1, c .before .constrain .ensures .applies))))
 
--- src/lib.rt:476:1
 same-length-3 : tie.Need-same-length-3
 same-length-3 c = search needs
 
--- src/lib.rt:476:1
 returns-3 : tie.Need-returns-3
 returns-3 c = step-applied _ (c .before .before .before .before .before .before .before .before .before .before .before .before .before .before .before .before .before .pre .0) (c .before .before .before .before .before .before .before .before .before .before .before .before .before .before .before .before .before .pre .1) _ _ (last-sub (pendingIn (now (c .before .before .before .before .before .before .before .before .before .before .before .before .before .before .before .before .before .args .image))) _ _ (c .before .before .before .before .before .before .before .before .before .before .before .before .before .before .pending-count .ensures) (c .before .before .before .before .before .before .before .before .before .before .before .before .pending-word .ensures)) (last-sup (pendingIn (now (c .before .before .before .before .before .before .before .before .before .before .before .before .before .before .before .before .before .args .image))) _ _ (c .before .before .before .before .before .before .before .before .before .before .before .before .before .before .pending-count .ensures) (c .before .before .before .before .before .before .before .before .before .before .pending-word2 .ensures)) _ _ _ (c .before .before .before .before .before .before .before .before .before .if1 .left) (sym (c .before .before .before .before .before .before .before .visited-has .ensures) ∙ c .before .before .before .before .before .before .if2 .left) (c .before .before .before .before .constrain .ensures) (c .before .before .apply .ensures)
 

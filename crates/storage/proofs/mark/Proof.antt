@@ -5,7 +5,7 @@ use Rattle.storage.proofs.mark.Statement.{statement}
 use Rattle.storage.proofs.mark.Tie as tie
 
 put-mark-requires : tie.Need-put-mark-requires
-put-mark-requires c κs = search needs
+put-mark-requires c κs = c .before .before .pre
 
 same-length : tie.Need-same-length
 same-length c = search needs

@@ -2,7 +2,7 @@
 use native.Mathlib.Omega.{arith}
 use mathlib.Core.Path.{sym, _∙_}
 use Rattle.image.proofs.Laying.{formed-shown, formed-laid}
-use Rattle.storage.proofs.Told.{bound-same, bound-full, bound-done}
+use Rattle.storage.proofs.Replying.{bound-same, bound-full, bound-done}
 use borrow.Author.Needs.{needs}
 use Rattle.storage.proofs.put_bound.Statement.{statement}
 use Rattle.storage.proofs.put_bound.Tie as tie

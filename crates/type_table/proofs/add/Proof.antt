@@ -2,7 +2,7 @@
 use native.Mathlib.Omega.{arith}
 use denote.Ref.{now}
 use Rattle.image.proofs.Laying.{shown, shown-laid}
-use Rattle.type_table.proofs.Steps.{add-full, add-index, add-done}
+use Rattle.type_table.proofs.WaysOut.{add-full, add-index, add-done}
 use borrow.Author.Needs.{needs}
 use Rattle.type_table.proofs.add.Statement.{statement}
 use Rattle.type_table.proofs.add.Tie as tie

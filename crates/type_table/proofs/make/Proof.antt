@@ -3,7 +3,7 @@ use native.Mathlib.Omega.{arith}
 use denote.Ref.{now}
 use Rattle.laws.proofs.Formed.{sound-table}
 use Rattle.image.proofs.Laying.{formed-shown, formed-laid}
-use Rattle.type_table.proofs.Steps.{make-full, make-deep, make-done}
+use Rattle.type_table.proofs.WaysOut.{make-full, make-deep, make-done}
 use borrow.Author.Needs.{needs}
 use Rattle.type_table.proofs.make.Statement.{statement}
 use Rattle.type_table.proofs.make.Tie as tie

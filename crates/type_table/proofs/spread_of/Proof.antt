@@ -4,7 +4,7 @@ use native.Mathlib.Omega.{arith}
 use mathlib.Core.Path.{sym, ap, _∙_}
 use denote.Ref.{now}
 use Rattle.image.specs.Shown.{entriesOf}
-use Rattle.type_table.proofs.Steps.{spread-none, spread-inner, spread-both}
+use Rattle.type_table.proofs.WaysOut.{spread-none, spread-inner, spread-both}
 use Rattle.type_table.proofs.spread_of.Statement.{statement}
 use Rattle.type_table.proofs.spread_of.Tie as tie
 
