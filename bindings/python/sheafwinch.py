@@ -369,7 +369,7 @@ class _Capacities(ctypes.Structure):
     _fields_ = [(name, ctypes.c_uint32) for name in ("entries", "fields", "bounds", "visited", "pending", "equals")]
 
 
-_DONE, _YES, _MORE, _FAILED, _REFUSED = range(5)
+_DONE, _YES, _MORE, _FAILED, _REFUSED = 0, 1, 2, 3, 4
 
 
 def _load():

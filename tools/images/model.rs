@@ -2,37 +2,27 @@
 //! of tools/fuzz, which is written from 01 in Rust, and compares every answer and every word. No part of the engine is linked.
 #![allow(dead_code)]
 
+#[path = "../fuzz/driver/answer.rs"]
+mod answer;
 #[path = "../fuzz/driver/call.rs"]
 mod call;
 #[path = "../fuzz/driver/image.rs"]
 mod image;
-#[path = "../fuzz/driver/lent.rs"]
-mod lent;
 #[path = "../fuzz/driver/model.rs"]
 mod model;
 #[path = "../fuzz/driver/model_names.rs"]
 mod model_names;
-#[path = "../bench/driver/ordinary.rs"]
-mod ordinary;
-#[path = "../../bindings/rust/src/raw.rs"]
-mod raw;
+#[path = "../fuzz/driver/refusal.rs"]
+mod refusal;
 #[path = "../fuzz/driver/rules.rs"]
 mod rules;
+#[path = "../fuzz/driver/shapes.rs"]
+mod shapes;
 
-use call::{Answer, Call, Which, CALLS};
+use answer::Answer;
+use call::{Call, Which, CALLS};
 use rules::{Hits, RULES, RULE_NAMES};
-
-/// How many records each region has room for, as the header has it.
-#[repr(C)]
-#[derive(Clone, Copy)]
-pub struct Capacities {
-    pub entries: u32,
-    pub fields: u32,
-    pub bounds: u32,
-    pub visited: u32,
-    pub pending: u32,
-    pub equals: u32,
-}
+use shared::{formed, raw};
 
 struct Session {
     stored: Vec<u32>,
@@ -53,8 +43,8 @@ impl Session {
                 model_names::names_due(call, &self.names)
             }
             _ => {
-                let formed = ordinary::well_formed(&self.now);
-                model::due(call, &mut self.now, formed, &mut self.hits)
+                let right = formed::well_formed(&self.now);
+                model::due(call, &mut self.now, right, &mut self.hits)
             }
         }
     }

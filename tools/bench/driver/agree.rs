@@ -1,14 +1,16 @@
-//! That the three tests agree: on whole images, on faults at every region's ends, on small images with each word changed to each
+//! That the two tests agree: on whole images, on faults at every region's ends, on small images with each word changed to each
 //! value at an edge, and on large ones changed at random.
-use crate::images::{deep, filled, Random};
-use crate::layout::{laid, start_of, HEADER, MOST, WIDTHS};
-use crate::{ordinary, proved, twin};
+use crate::images::{deep, filled, start_of};
+use crate::{ordinary, proved};
+use shared::image::laid;
+use shared::layout::*;
+use shared::random::XorShift;
 
-/// What all three say; ends the run where they differ, or where the answer is not the one that is due.
+/// What both say; ends the run where they differ, or where the answer is not the one that is due.
 pub fn agreed(image: &[u32], due: Option<bool>, what: &str) -> bool {
-    let (p, o, t) = (proved(image), ordinary(image), twin(image));
-    if p != o || p != t || due.is_some_and(|due| due != p) {
-        eprintln!("DISAGREEMENT on {what}: proved {p}, Rust {o}, twin {t}, due {due:?}");
+    let (p, o) = (proved(image), ordinary(image));
+    if p != o || due.is_some_and(|due| due != p) {
+        eprintln!("DISAGREEMENT on {what}: proved {p}, Rust {o}, due {due:?}");
         std::process::exit(1);
     }
     p
@@ -17,35 +19,36 @@ pub fn agreed(image: &[u32], due: Option<bool>, what: &str) -> bool {
 /// An image of the largest capacities is well formed, and no longer so with a fault in the first or last word of any region.
 pub fn on_faults(name: &str, image: &mut [u32]) {
     agreed(image, Some(true), name);
-    for k in 0..6 {
-        for at in [start_of(MOST, k), start_of(MOST, k + 1) - 1] {
+    for region in ENTRIES..=EQUALS {
+        for at in [start_of(MOST, region), start_of(MOST, region + 1) - 1] {
             let word = image[at];
             image[at] = u32::MAX;
             agreed(image, Some(false), &format!("{name}, fault at word {at}"));
             image[at] = word;
         }
     }
-    for words in [0, 1, HEADER - 1, HEADER, image.len() - 1] {
+    for words in [0, 1, HEADER_WORDS - 1, HEADER_WORDS, image.len() - 1] {
         agreed(&image[..words], Some(false), &format!("{name}, first {words} words"));
     }
 }
 
 /// Capacities and spreads at their maxima and past them, and words past the last region.
 pub fn on_limits() {
-    for k in 0..6 {
+    for region in ENTRIES..=EQUALS {
         let mut capacities = MOST;
-        capacities[k] += 1;
-        agreed(&laid(capacities, 1), Some(false), &format!("region {}, a capacity too large", k + 1));
+        capacities[region - 1] += 1;
+        agreed(&laid(capacities, 1, 1), Some(false), &format!("region {region}, a capacity too large"));
     }
-    agreed(&laid([0; 6], 0), Some(false), "no names, and a functor");
-    agreed(&laid([0; 6], 1), Some(true), "capacities 0");
-    agreed(&[laid([0; 6], 1), vec![0]].concat(), Some(false), "a word too many");
+    let none = [0; REGIONS];
+    agreed(&laid(none, 0, 1), Some(false), "no names, and a functor");
+    agreed(&laid(none, 1, 1), Some(true), "capacities 0");
+    agreed(&[laid(none, 1, 1), vec![0]].concat(), Some(false), "a word too many");
     agreed(&deep(1), Some(true), "spread 1024");
     agreed(&deep(2), Some(false), "spread 1025");
 }
 
 /// Changes each word of small images to each value at an edge; answers how many images, and how many of them are well formed.
-pub fn on_edges(random: &mut Random) -> (usize, usize) {
+pub fn on_edges(random: &mut XorShift) -> (usize, usize) {
     let (mut all, mut kept) = (0, 0);
     for full in [true, false] {
         let counts = [60, 40, 12, 6, 6, 6];
@@ -54,13 +57,17 @@ pub fn on_edges(random: &mut Random) -> (usize, usize) {
         agreed(&image, Some(true), "a small image");
         for at in 0..image.len() {
             let word = image[at];
-            let region = (0..6).find(|&k| at >= HEADER && at < start_of(capacities, k + 1));
+            let region = (ENTRIES..=EQUALS).find(|&region| at >= HEADER_WORDS && at < start_of(capacities, region + 1));
             let (number, before) = match region {
-                Some(k) => ((at - start_of(capacities, k)) / WIDTHS[k], image[at - WIDTHS[k]]),
+                Some(region) => {
+                    let width = WIDTHS[region - 1];
+                    ((at - start_of(capacities, region)) / width, image[at - width])
+                }
                 None => (0, 0),
             };
             let near = |n: u32| [n.wrapping_sub(1), n, n.wrapping_add(1)];
-            let edges = [word, number as u32, image[7], image[11], image[14], before, 4096, 1024, 8, 5, 2, 0];
+            let (names, entries, fields) = (image[NAMES_AT], image[count_at(ENTRIES)], image[count_at(FIELDS)]);
+            let edges = [word, number as u32, names, entries, fields, before, ENTRIES_MOST, SPREAD_MOST, UNION, NAMED, 2, 0];
             for value in edges.into_iter().flat_map(near) {
                 image[at] = value;
                 all += 1;
@@ -72,14 +79,14 @@ pub fn on_edges(random: &mut Random) -> (usize, usize) {
     (all, kept)
 }
 
-/// Changes one to three words at random, a third of them in the header; tells what all say, and puts the words back.
-pub fn on_damage(name: &str, image: &mut [u32], random: &mut Random) -> bool {
+/// Changes one to three words at random, a third of them in the header; tells what both say, and puts the words back.
+pub fn on_damage(name: &str, image: &mut [u32], random: &mut XorShift) -> bool {
     let mut undo = Vec::new();
     for _ in 0..1 + random.below(3) {
-        let at = match random.below(9) {
-            0..=2 => random.below(HEADER) as usize,
+        let at = match random.below(9) as usize {
+            0..=2 => random.below(HEADER_WORDS) as usize,
             k => {
-                let (start, end) = (start_of(MOST, k as usize - 3), start_of(MOST, k as usize - 2));
+                let (start, end) = (start_of(MOST, k - 2), start_of(MOST, k - 1));
                 start + random.below(end - start) as usize
             }
         };

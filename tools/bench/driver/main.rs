@@ -2,14 +2,13 @@
 //! disagreement ends the run with status 1.
 mod agree;
 mod images;
-mod layout;
-#[path = "ordinary.rs"]
-mod ordinary_test;
-#[path = "twin.rs"]
-mod twin_test;
 
-use images::{filled, Random};
-use layout::{laid, MOST};
+use images::filled;
+use shared::formed::well_formed;
+use shared::image::laid;
+use shared::layout::{MOST, NAMES_MOST};
+use shared::random::XorShift;
+use shared::raw::sheafwinch_check;
 use std::hint::black_box;
 use std::time::Instant;
 
@@ -17,10 +16,6 @@ const SEED: u64 = 20_261_115;
 const DAMAGED: usize = 600;
 const ROUNDS: usize = 1001;
 const GOAL: f64 = 0.6;
-
-unsafe extern "C" {
-    fn sheafwinch_check(image: *const u32, words: usize) -> bool;
-}
 
 /// The proved check: it reads the lent words, and nothing else.
 #[inline(never)]
@@ -30,12 +25,7 @@ fn proved(image: &[u32]) -> bool {
 
 #[inline(never)]
 fn ordinary(image: &[u32]) -> bool {
-    ordinary_test::well_formed(image)
-}
-
-#[inline(never)]
-fn twin(image: &[u32]) -> bool {
-    twin_test::well_formed(image)
+    well_formed(image)
 }
 
 /// Microseconds of one call. One alone is too short for other work to come between often, so a median leaves that out.
@@ -50,26 +40,26 @@ fn median(times: &mut [f64]) -> f64 {
     times[times.len() / 2]
 }
 
-/// Times the three in turn, each round beginning with another; prints a row of medians and ratios.
+/// Times the two in turn, each round beginning with another; prints a row of medians and ratios.
 fn time(name: &str, image: &[u32]) {
-    let tests: [fn(&[u32]) -> bool; 3] = [proved, ordinary, twin];
-    let mut times = [const { Vec::new() }; 3];
+    let tests: [fn(&[u32]) -> bool; 2] = [proved, ordinary];
+    let mut times = [const { Vec::new() }; 2];
     for round in 0..ROUNDS {
-        for k in 0..3 {
-            let k = (round + k) % 3;
+        for k in 0..2 {
+            let k = (round + k) % 2;
             times[k].push(micros(tests[k], image));
         }
     }
-    let [p, o, t] = times.each_mut().map(|times| median(times));
-    println!("| {name} | {p:.1} | {o:.1} | {:.2} | {t:.1} | {:.2} |", p / o, p / t);
+    let [p, o] = times.each_mut().map(|times| median(times));
+    println!("| {name} | {p:.1} | {o:.1} | {:.2} |", p / o);
 }
 
 fn main() {
-    let mut random = Random(SEED);
+    let mut random = XorShift(SEED);
     agree::on_limits();
     let (all, kept) = agree::on_edges(&mut random);
     println!("small images: agreed on {all}, each with one word at an edge, {kept} of them well formed (seed {SEED})");
-    let mut images = [("counts 0", laid(MOST, 4096)), ("every region full", filled(MOST, MOST, 4096, &mut random))];
+    let mut images = [("counts 0", laid(MOST, NAMES_MOST, 1)), ("every region full", filled(MOST, MOST, NAMES_MOST, &mut random))];
     for (name, image) in &mut images {
         agree::on_faults(name, image);
         let kept = (0..DAMAGED).filter(|_| agree::on_damage(name, image, &mut random)).count();
@@ -81,8 +71,8 @@ fn main() {
         images[0].1.len()
     );
     println!();
-    println!("| image | proved check, µs | Rust, ordinary, µs | ratio | Rust, same shapes, µs | ratio |");
-    println!("|---|---:|---:|---:|---:|---:|");
+    println!("| image | proved check, µs | Rust, ordinary, µs | ratio |");
+    println!("|---|---:|---:|---:|");
     for (name, image) in &images {
         time(name, image);
     }

@@ -1,8 +1,9 @@
 //! Whether the records of both sides are the same.
 
-use crate::image::{self, Image};
+use crate::image::Image;
 use crate::script::Names;
 use lang_check::table::{Entry, Table as Oracle};
+use shared::{image, layout};
 use sheafwinch::Table;
 use std::fmt::Debug;
 
@@ -48,8 +49,8 @@ fn entry(image: Image, oracle: &Oracle, names: Names, n: u32) -> Compared {
     if ours.marked() != oracle.marked(n) {
         return same(&format!("mark of {n}"), ours.marked(), oracle.marked(n));
     }
-    if ours.negation() != oracle.negation(n) {
-        return same(&format!("cached negation of {n}"), ours.negation(), oracle.negation(n));
+    if ours.cached_negation() != oracle.negation(n) {
+        return same(&format!("cached negation of {n}"), ours.cached_negation(), oracle.negation(n));
     }
     Ok(())
 }
@@ -57,16 +58,16 @@ fn entry(image: Image, oracle: &Oracle, names: Names, n: u32) -> Compared {
 fn same_content(image: Image, ours: image::Entry, oracles: &Entry, names: Names) -> bool {
     let parts = (ours.kind, ours.x, ours.y);
     match oracles {
-        Entry::Variable { level } => parts == (image::VARIABLE, *level, 0),
-        Entry::Primitive(which) => parts == (image::PRIMITIVE, *which, 0),
-        Entry::List(element) => parts == (image::LIST, *element, 0),
-        Entry::Lambda(param, body) => parts == (image::LAMBDA, *param, *body),
-        Entry::Named(inner, label) => (ours.kind, ours.x) == (image::NAMED, *inner) && label.parse() == Ok(ours.y),
-        Entry::Neg(inner) => parts == (image::NEG, *inner, 0),
-        Entry::Inter(left, right) => parts == (image::INTER, *left, *right),
-        Entry::Union(left, right) => parts == (image::UNION, *left, *right),
+        Entry::Variable { level } => parts == (layout::VARIABLE, *level, 0),
+        Entry::Primitive(which) => parts == (layout::PRIMITIVE, *which, 0),
+        Entry::List(element) => parts == (layout::LIST, *element, 0),
+        Entry::Lambda(param, body) => parts == (layout::LAMBDA, *param, *body),
+        Entry::Named(inner, label) => (ours.kind, ours.x) == (layout::NAMED, *inner) && label.parse() == Ok(ours.y),
+        Entry::Neg(inner) => parts == (layout::NEG, *inner, 0),
+        Entry::Inter(left, right) => parts == (layout::INTER, *left, *right),
+        Entry::Union(left, right) => parts == (layout::UNION, *left, *right),
         Entry::Attrset(set) => {
-            ours.kind == image::ATTRSET
+            ours.kind == layout::ATTRSET
                 && ours.open() == set.open()
                 && ours.dynamic() == set.dynamic()
                 && image
@@ -82,31 +83,31 @@ fn same_content(image: Image, ours: image::Entry, oracles: &Entry, names: Names)
 fn show_ours(image: Image, entry: image::Entry, names: Names) -> String {
     let image::Entry { kind, x, y, .. } = entry;
     match kind {
-        image::ATTRSET => {
+        layout::ATTRSET => {
             let fields = image.fields(entry).iter().map(|&[name, e, optional]| (names[name as usize], e, optional != 0));
             show_attrset(entry.open(), entry.dynamic(), fields)
         }
-        image::LAMBDA | image::NAMED | image::INTER | image::UNION => format!("{kind} {x} {y}"),
+        layout::LAMBDA | layout::NAMED | layout::INTER | layout::UNION => format!("{kind} {x} {y}"),
         _ => format!("{kind} {x}"),
     }
 }
 
 fn show_oracles(entry: &Entry) -> String {
     match entry {
-        Entry::Variable { level } => format!("{} {level}", image::VARIABLE),
-        Entry::Primitive(which) => format!("{} {which}", image::PRIMITIVE),
-        Entry::List(element) => format!("{} {element}", image::LIST),
-        Entry::Lambda(param, body) => format!("{} {param} {body}", image::LAMBDA),
+        Entry::Variable { level } => format!("{} {level}", layout::VARIABLE),
+        Entry::Primitive(which) => format!("{} {which}", layout::PRIMITIVE),
+        Entry::List(element) => format!("{} {element}", layout::LIST),
+        Entry::Lambda(param, body) => format!("{} {param} {body}", layout::LAMBDA),
         Entry::Attrset(set) => show_attrset(set.open(), set.dynamic(), set.fields()),
-        Entry::Named(inner, label) => format!("{} {inner} {label}", image::NAMED),
-        Entry::Neg(inner) => format!("{} {inner}", image::NEG),
-        Entry::Inter(left, right) => format!("{} {left} {right}", image::INTER),
-        Entry::Union(left, right) => format!("{} {left} {right}", image::UNION),
+        Entry::Named(inner, label) => format!("{} {inner} {label}", layout::NAMED),
+        Entry::Neg(inner) => format!("{} {inner}", layout::NEG),
+        Entry::Inter(left, right) => format!("{} {left} {right}", layout::INTER),
+        Entry::Union(left, right) => format!("{} {left} {right}", layout::UNION),
     }
 }
 
 fn show_attrset<'a>(open: bool, dynamic: Option<u32>, fields: impl ExactSizeIterator<Item = (&'a str, u32, bool)>) -> String {
-    let mut shown = format!("{} {} {} {}", image::ATTRSET, u8::from(open), dynamic.map_or(-1, i64::from), fields.len());
+    let mut shown = format!("{} {} {} {}", layout::ATTRSET, u8::from(open), dynamic.map_or(-1, i64::from), fields.len());
     for (name, entry, optional) in fields {
         shown += &format!(" {name} {entry} {}", u8::from(optional));
     }
@@ -114,7 +115,7 @@ fn show_attrset<'a>(open: bool, dynamic: Option<u32>, fields: impl ExactSizeIter
 }
 
 fn bounds(image: Image, oracle: &Oracle) -> Compared {
-    for n in (0..image.len()).filter(|&n| image.kind(n) == image::VARIABLE) {
+    for n in (0..image.len()).filter(|&n| image.kind(n) == layout::VARIABLE) {
         bounds_of(image, n, 0, "lower", oracle.lower(n))?;
         bounds_of(image, n, 1, "upper", oracle.upper(n))?;
     }

@@ -1,11 +1,12 @@
 //! Scripts at random, in families. A script is written while it runs, so that its lines may name entries that questions made.
 
 use crate::family::{self, Family};
-use crate::image::{Entry, ATTRSET, INTER, LAMBDA, LIST, NAMED, NEG, PRIMITIVE, UNION, VARIABLE};
 use crate::numbers::Numbers;
 use crate::script::{Line, Make, Names, Question, Script};
 use crate::session::{Ran, Session};
 use crate::tally::Tally;
+use shared::image::Entry;
+use shared::layout::{ATTRSET, INTER, LAMBDA, LIST, NAMED, NEG, PRIMITIVE, UNION, VARIABLE};
 use sheafwinch::{Field, Side};
 
 /// Writes the script of a seed with this number, and runs it. It is whole where it ran to the end, else its last line has the fault.
@@ -380,7 +381,7 @@ impl Writer<'_> {
         }
         let d = if self.entry(e.x).kind == VARIABLE { e.y } else { e.x };
         self.say_make(Make::Neg(d))?;
-        let Some(mut sup) = self.entry(d).negation() else {
+        let Some(mut sup) = self.entry(d).cached_negation() else {
             return Ok(());
         };
         for _ in 0..self.numbers.below(4) {

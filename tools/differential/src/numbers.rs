@@ -1,28 +1,18 @@
-//! Numbers at random, the same ones for the same seed.
+//! Numbers at random, the same ones for the same seed, and how they are drawn: recorded seeds depend on it.
 
-pub struct Numbers {
-    state: u64,
-}
+use shared::random::SplitMix;
+
+pub struct Numbers(SplitMix);
 
 impl Numbers {
     /// Those of a seed's script.
     pub fn new(seed: u64, script: u64) -> Numbers {
-        let mut numbers = Numbers { state: seed };
-        numbers.state = numbers.next() ^ script;
-        numbers
-    }
-
-    /// SplitMix64.
-    fn next(&mut self) -> u64 {
-        self.state = self.state.wrapping_add(0x9e37_79b9_7f4a_7c15);
-        let z = (self.state ^ (self.state >> 30)).wrapping_mul(0xbf58_476d_1ce4_e5b9);
-        let z = (z ^ (z >> 27)).wrapping_mul(0x94d0_49bb_1331_11eb);
-        z ^ (z >> 31)
+        Numbers(SplitMix(SplitMix(seed).next() ^ script))
     }
 
     /// A number below n, which is not 0.
     pub fn below(&mut self, n: u32) -> u32 {
-        (((self.next() >> 32) * u64::from(n)) >> 32) as u32
+        (((self.0.next() >> 32) * u64::from(n)) >> 32) as u32
     }
 
     pub fn between(&mut self, low: u32, high: u32) -> u32 {

@@ -1,12 +1,13 @@
 //! Questions on both sides.
 
 use crate::compare::{self, same, Compared};
-use crate::image::{Image, VARIABLE};
+use crate::image::Image;
 use crate::room::Needs;
 use crate::rules::{Rule, Rules};
 use crate::script::{Names, Question};
 use crate::session::{Fault, Ran, Session};
 use lang_check::table;
+use shared::layout::VARIABLE;
 use sheafwinch::{Answer, Failure, Instalment, Refusal, Region};
 
 /// An answer that both sides can give.

@@ -3,10 +3,8 @@
 use crate::image::Image;
 use crate::sides::count_bounds;
 use lang_check::table::{Entry, Table as Oracle};
+use shared::layout::SPREAD_MOST;
 use sheafwinch::{Refusal, Region, Table};
-
-/// The most that an entry's spread may be.
-const DEPTH: u32 = 1024;
 
 /// How many records a call would leave in each region, and whether an entry that it makes is too deep.
 pub struct Needs {
@@ -30,7 +28,7 @@ impl Needs {
             visited: oracle.visited().len() as u32,
             pending: table.count(Region::Pending),
             equals: oracle.equals().len() as u32,
-            deep: (image.len()..oracle.len()).any(|n| spread(image, oracle, n) > DEPTH),
+            deep: (image.len()..oracle.len()).any(|n| spread(image, oracle, n) > SPREAD_MOST),
         }
     }
 

@@ -1,12 +1,10 @@
 //! Which rule works a pair, told from its two entries as they stand: the first that fits, in 01's order. Entries keep their kinds and
 //! components, so that a rule tells the same after the question as at its step. As crates/replay tells it, under the same names.
 
-use crate::image::{Entry, Image, ATTRSET, INTER, LAMBDA, LIST, NAMED, NEG, PRIMITIVE, UNION, VARIABLE};
+use crate::image::Image;
+use shared::image::Entry;
+use shared::layout::{ATTRSET, FLOAT, INT, INTER, LAMBDA, LIST, NAMED, NEG, NUMBER, PRIMITIVE, UNION, VARIABLE};
 use sheafwinch::Table;
-
-const INT: u32 = 2;
-const FLOAT: u32 = 3;
-const NUMBER: u32 = 7;
 
 /// Where a rule has a left and a right case, the right one follows the left one.
 #[derive(Clone, Copy, PartialEq, Eq)]
@@ -212,7 +210,7 @@ impl<'a> Rules<'a> {
             return chosen.of(Rule::InterMismatchLeft, Rule::InterMismatchRight);
         }
         let e = self.image.entry(d);
-        if self.has_member(sup, e.negation().unwrap_or(e.x)) {
+        if self.has_member(sup, e.cached_negation().unwrap_or(e.x)) {
             chosen.of(Rule::InterSupLeft, Rule::InterSupRight)
         } else {
             chosen.of(Rule::InterNewLeft, Rule::InterNewRight)

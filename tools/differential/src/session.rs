@@ -1,12 +1,13 @@
 //! Both sides at work on one script, compared after every line.
 
 use crate::compare::{self, same, Compared, Difference};
-use crate::image::{Image, VARIABLE};
+use crate::image::Image;
 use crate::room::Needs;
 use crate::script::{Line, Make, Names};
 use crate::sides::{make_oracles, make_ours, put_bound_oracles};
 use crate::tally::Tally;
 use lang_check::table::Table as Oracle;
+use shared::layout::VARIABLE;
 use sheafwinch::{Capacities, Failure, Refusal, Side, Table};
 use std::panic::{self, AssertUnwindSafe};
 

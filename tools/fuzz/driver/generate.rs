@@ -1,34 +1,13 @@
 //! Cases at random. A line is made with the image in view, so that most calls are accepted and each refusal is met.
 
-use crate::call::{Call, Which};
+use crate::call::Which;
 use crate::case::Line;
+use crate::generate_calls::start_args;
 use crate::generate_names;
-use crate::image::*;
-use crate::judge::{Fault, Judge};
-use crate::random::Random;
-
-/// A case as it is made: each line is seen, then carried out.
-pub struct Play<'a> {
-    pub judge: &'a mut Judge,
-    pub random: Random,
-    pub seen: &'a mut dyn FnMut(&Line),
-}
-
-pub type Played = Result<(), Fault>;
-
-/// Words at the edges of what a word may be.
-pub const EDGES: [u32; 8] = [0, 1, 2, 0x7fff_ffff, 0x8000_0000, 0xffff_fffe, u32::MAX, 4096];
+use crate::play::{Play, Played};
+use shared::layout::{words_for, MOST, NAMES_MOST};
 
 impl Play<'_> {
-    pub fn line(&mut self, line: Line) -> Played {
-        (self.seen)(&line);
-        self.judge.carry_out(&line)
-    }
-
-    pub fn call(&mut self, which: Which, args: &[u32]) -> Played {
-        self.line(Line::Call(Call::with(which, args)))
-    }
-
     pub fn case(&mut self) -> Played {
         let front = self.random.chance(50);
         self.line(Line::Front(front))?;
@@ -111,7 +90,7 @@ impl Play<'_> {
 
     /// Starts that may be refused, then one that is as it should be.
     fn started(&mut self, capacities: &[u32; 6]) -> Played {
-        let names = self.random.of_these(&[0, 1, 2, 3, 4, 5, 6, 4096]);
+        let names = self.random.of_these(&[0, 1, 2, 3, 4, 5, 6, NAMES_MOST]);
         let functor = self.random.below(names as usize + 1).min(7) as u32;
         self.line(Line::Length(words_for(capacities) as usize))?;
         if self.random.chance(15) {
@@ -196,10 +175,4 @@ enum Profile {
     Deep,
     ManyBounds,
     Large,
-}
-
-pub fn start_args(names: u32, functor: u32, capacities: &[u32; 6]) -> [u32; 8] {
-    let mut args = [names, functor, 0, 0, 0, 0, 0, 0];
-    args[2..].copy_from_slice(capacities);
-    args
 }

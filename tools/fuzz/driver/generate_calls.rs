@@ -1,10 +1,10 @@
 //! Calls with arguments at random, made with the image in view: most are right, some are next to what is right, some at an edge.
 
-use crate::call::{Argument, Call, Which, CALLS};
+use crate::call::{Call, Which, CALLS};
 use crate::case::Line;
-use crate::generate::{start_args, Play, Played, EDGES};
-use crate::generate_names;
-use crate::image::*;
+use crate::play::{Play, Played};
+use shared::image::{capacity, count, entries};
+use shared::layout::*;
 
 impl Play<'_> {
     /// So many calls on the image, each one any.
@@ -18,7 +18,7 @@ impl Play<'_> {
 
     /// A call that moves on: makes while there are few entries, work while a question is asked.
     pub fn likely_call(&mut self) -> Which {
-        let asked = self.judge.formed() && self.judge.image()[STATE] == 1;
+        let asked = self.judge.formed() && self.judge.image()[STATE_AT] == ASKED;
         let any = CALLS[self.random.below(Which::Disjoint as usize + 1)].0;
         match self.random.below(100) {
             0..=44 if asked => Which::Work,
@@ -46,7 +46,7 @@ impl Play<'_> {
         match which {
             Which::MakeAttrset => call.extra = self.field_list(),
             Which::Ask | Which::AskEqual if self.random.chance(40) => call.args[2] = self.entry_like(call.args[1]),
-            Which::Enter if self.random.chance(2) => self.line(Line::Set(LEVEL, u32::MAX))?,
+            Which::Enter if self.random.chance(2) => self.line(Line::Set(LEVEL_AT, u32::MAX))?,
             _ => (),
         }
         if which == Which::Start && self.random.chance(70) {
@@ -55,55 +55,17 @@ impl Play<'_> {
         self.line(Line::Call(call))
     }
 
-    /// Capacities that come to as many words as there are, from 27 on: those of the image, if it is one.
+    /// Capacities that come to as many words as there are, from a header on: those of the image, if it is one.
     fn start_that_fits(&self) -> [u32; 8] {
         let image = self.judge.image();
         if self.judge.formed() {
             let capacities = std::array::from_fn(|k| capacity(image, k + 1) as u32);
-            return start_args(image[NAMES], image[FUNCTOR], &capacities);
+            return start_args(image[NAMES_AT], image[FUNCTOR_AT], &capacities);
         }
         // a field has 3 words, an equal 2
-        let words = image.len().saturating_sub(HEADER) as u32;
+        let words = image.len().saturating_sub(HEADER_WORDS) as u32;
         let fields = words % 2;
         start_args(3, 1, &[0, fields, 0, 0, 0, words.saturating_sub(3 * fields) / 2])
-    }
-
-    pub fn argument(&mut self, argument: Argument) -> u32 {
-        let random = &mut self.random;
-        match argument {
-            Argument::Entry => return self.entry_number(),
-            Argument::Name => return generate_names::name_number(self),
-            Argument::Record => {
-                let n = random.below(12) as u32;
-                return if random.chance(90) { n } else { self.near(n) };
-            }
-            _ => (),
-        }
-        if random.chance(5) {
-            return random.of_these(&EDGES);
-        }
-        let end = match argument {
-            Argument::Primitive => 9,
-            Argument::Operator => 5,
-            Argument::Flag | Argument::Side => 3,
-            Argument::Region => 8,
-            Argument::Functor | Argument::NameCount | Argument::Capacity => 6,
-            Argument::Level => 4,
-            Argument::Budget => return random.of_these(&[0, 1, 1, 2, 3, 5, 10, 100, u32::MAX]),
-            _ => return random.word(),
-        };
-        // the last of each list is one too many, and rarer
-        random.below(end).min(random.below(end)) as u32
-    }
-
-    fn entry_number(&mut self) -> u32 {
-        let entries = if self.judge.formed() { count(self.judge.image(), ENTRIES) } else { 4 };
-        match self.random.below(100) {
-            0..=1 => entries as u32,
-            2..=3 => self.near(entries as u32),
-            4..=25 => entries.saturating_sub(1) as u32,
-            _ => self.random.below(entries) as u32,
-        }
     }
 
     /// An entry of the same kind as this one, where there is another.
@@ -112,8 +74,8 @@ impl Play<'_> {
         if !self.judge.formed() || n as usize >= count(image, ENTRIES) {
             return n;
         }
-        let kind = image[entry_word(image, n, 0)];
-        let like = |&m: &u32| m != n && image[entry_word(image, m, 0)] == kind;
+        let kind = |n: u32| entries(image)[n as usize][KIND_WORD];
+        let like = |&m: &u32| m != n && kind(m) == kind(n);
         let all: Vec<u32> = (0..count(image, ENTRIES) as u32).filter(like).collect();
         if all.is_empty() {
             n
@@ -124,7 +86,7 @@ impl Play<'_> {
 
     /// A field list that is right in most cases.
     fn field_list(&mut self) -> Vec<u32> {
-        let names = if self.judge.formed() { self.judge.image()[NAMES].min(8) as usize } else { 3 };
+        let names = if self.judge.formed() { self.judge.image()[NAMES_AT].min(8) as usize } else { 3 };
         let mut list = Vec::new();
         for name in 0..names {
             if self.random.chance(40) {
@@ -144,14 +106,10 @@ impl Play<'_> {
         }
         list
     }
+}
 
-    /// A number next to this one, or at an edge.
-    pub fn near(&mut self, n: u32) -> u32 {
-        match self.random.below(4) {
-            0 => n.wrapping_add(1),
-            1 => n.wrapping_sub(1),
-            2 => n ^ (1 << self.random.below(32)),
-            _ => self.random.of_these(&EDGES),
-        }
-    }
+pub fn start_args(names: u32, functor: u32, capacities: &[u32; 6]) -> [u32; 8] {
+    let mut args = [names, functor, 0, 0, 0, 0, 0, 0];
+    args[2..].copy_from_slice(capacities);
+    args
 }

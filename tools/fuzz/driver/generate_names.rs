@@ -2,7 +2,8 @@
 
 use crate::call::{Call, Which, CALLS};
 use crate::case::Line;
-use crate::generate::{Play, Played};
+use crate::play::{Play, Played};
+use shared::layout::NAMES_MOST;
 use std::collections::BTreeSet;
 
 /// A name list, right or damaged, and calls on it.
@@ -39,14 +40,6 @@ pub fn operators(play: &mut Play) -> Played {
     Ok(())
 }
 
-pub fn name_number(play: &mut Play) -> u32 {
-    let count = play.judge.list().first().copied().unwrap_or(0);
-    match play.random.below(10) {
-        0 => play.near(u32::from(count)),
-        _ => play.random.below(usize::from(count) + 1) as u32,
-    }
-}
-
 fn name_list(play: &mut Play) -> Vec<u8> {
     let mut names = BTreeSet::new();
     for _ in 0..play.random.below(9) {
@@ -76,7 +69,8 @@ fn any_bytes(play: &mut Play) -> Vec<u8> {
     match play.random.below(800) {
         // as many names as there may be, or one more
         0..=1 => {
-            let names: Vec<Vec<u8>> = (0..4096 + play.random.below(2) as u16).map(|n| n.to_be_bytes().to_vec()).collect();
+            let names: Vec<Vec<u8>> =
+                (0..NAMES_MOST as u16 + play.random.below(2) as u16).map(|n| n.to_be_bytes().to_vec()).collect();
             return encoded(&names);
         }
         // no name, and as many bytes as 16 bits tell from none

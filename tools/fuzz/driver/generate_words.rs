@@ -1,8 +1,10 @@
 //! Words that no call left: a copy of an image with a few words changed, or words at random.
 
+use crate::arguments::EDGES;
 use crate::case::Line;
-use crate::generate::{Play, Played, EDGES};
-use crate::image::*;
+use crate::play::{Play, Played};
+use shared::image::{count, offset};
+use shared::layout::*;
 
 impl Play<'_> {
     /// Calls on a copy with a few words changed, or cut short, or made longer.
@@ -30,11 +32,12 @@ impl Play<'_> {
     /// The break words, each next to its limit or 0: a kind, a pair of entries, a name.
     fn broken(&mut self) -> Played {
         let image = self.judge.image();
-        if image.len() < HEADER {
+        if image.len() < HEADER_WORDS {
             return Ok(());
         }
-        let (entries, names) = (count(image, 1) as u32, image[7]);
-        for (i, limit) in [(2, 3), (3, entries), (4, entries), (5, names)] {
+        let (entries, names) = (count(image, ENTRIES) as u32, image[NAMES_AT]);
+        let limits = [(BREAK_KIND_AT, FIELD_MISSING + 1), (BREAK_SUB_AT, entries), (BREAK_SUP_AT, entries), (BREAK_NAME_AT, names)];
+        for (i, limit) in limits {
             let word = match self.random.below(4) {
                 0 => 0,
                 near => limit.wrapping_add(near as u32).wrapping_sub(3),
@@ -51,9 +54,9 @@ impl Play<'_> {
             return Ok(());
         }
         let i = match self.random.below(10) {
-            0..=3 => self.random.below(HEADER.min(image.len())),
+            0..=3 => self.random.below(HEADER_WORDS.min(image.len())),
             4..=7 if self.judge.formed() => {
-                let region = 1 + self.random.below(6);
+                let region = 1 + self.random.below(REGIONS);
                 let words = (count(image, region) + 1) * WIDTHS[region - 1];
                 (offset(image, region) + self.random.below(words)).min(image.len() - 1)
             }
@@ -81,7 +84,7 @@ impl Play<'_> {
     }
 
     fn free_words(&mut self) -> Vec<u32> {
-        let length = self.random.of_these(&[0, 1, 26, 27, 28, 60, 300]);
+        let length = self.random.of_these(&[0, 1, HEADER_WORDS - 1, HEADER_WORDS, HEADER_WORDS + 1, 60, 300]);
         let length = self.random.below(length + 1);
         (0..length).map(|_| self.any_word()).collect()
     }
@@ -96,28 +99,35 @@ impl Play<'_> {
 
     /// A right header, and records of small numbers.
     fn laid_words(&mut self) -> Vec<u32> {
-        let capacities: [u32; 6] = std::array::from_fn(|_| self.random.below(4) as u32);
+        let capacities: [u32; REGIONS] = std::array::from_fn(|_| self.random.below(4) as u32);
         let mut image = vec![0; words_for(&capacities) as usize];
         let names = self.random.below(4) as u32;
-        image[..9].copy_from_slice(&[1, 0, 0, 0, 0, 0, self.any_word(), names, self.random.below(names as usize + 1) as u32]);
-        for k in 0..6 {
-            let count = self.random.below(capacities[k] as usize + 1);
-            let at = words_for(&capacities[..k]) as usize;
-            image[9 + 3 * k..12 + 3 * k].copy_from_slice(&[at as u32, capacities[k], count as u32]);
-            for i in 0..count * WIDTHS[k] {
-                image[at + i] = self.random.below(3) as u32;
+        image[FORMAT_AT] = FORMAT;
+        image[LEVEL_AT] = self.any_word();
+        image[NAMES_AT] = names;
+        image[FUNCTOR_AT] = self.random.below(names as usize + 1) as u32;
+        for region in ENTRIES..=EQUALS {
+            let (capacity, width) = (capacities[region - 1], WIDTHS[region - 1]);
+            let count = self.random.below(capacity as usize + 1);
+            let at = words_for(&capacities[..region - 1]) as usize;
+            image[offset_at(region)] = at as u32;
+            image[capacity_at(region)] = capacity;
+            image[count_at(region)] = count as u32;
+            let records = &mut image[at..at + count * width];
+            for word in &mut *records {
+                *word = self.random.below(3) as u32;
             }
-            // an entry's spread and negation are right more often so
-            for n in 0..if k == 0 { count } else { 0 } {
-                image[at + 7 * n + 3..at + 7 * n + 7].copy_from_slice(&[
-                    0,
-                    self.random.below(2) as u32,
-                    1,
-                    self.random.below(2) as u32,
-                ]);
+            if region == ENTRIES {
+                // an entry's spread and negation are right more often so
+                for entry in records.chunks_exact_mut(width) {
+                    entry[Z_WORD] = 0;
+                    entry[FLAGS_WORD] = self.random.below(2) as u32;
+                    entry[SPREAD_WORD] = 1;
+                    entry[NEGATION_WORD] = self.random.below(2) as u32;
+                }
             }
         }
-        image[STATE] = u32::from(image[8 + 3 * PENDING] > 0);
+        image[STATE_AT] = if image[count_at(PENDING)] > 0 { ASKED } else { IDLE };
         image
     }
 }

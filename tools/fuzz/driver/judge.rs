@@ -1,12 +1,15 @@
 //! Carries out the lines of a case and compares each call with what is due: the answer, and every word that was lent.
 
-use crate::call::{make, Answer, Call, Lending, Which};
+use crate::answer::Answer;
+use crate::call::{Call, Which};
 use crate::case::Line;
 use crate::lent::{Lent, Memory, Pool};
+use crate::make::{make, Lending};
+use crate::model;
 use crate::model_names::{names_due, operator_due};
-use crate::ordinary::well_formed;
 use crate::tally::Tally;
-use crate::{model, raw};
+use shared::formed::well_formed;
+use shared::raw;
 
 /// What a call did that it must not do.
 pub type Fault = String;

@@ -7,6 +7,8 @@
 //!     try MEMORY CALLS PLACE SEED..   does the calls, writing at PLACE which case it is at
 //!     lines MEMORY SEED CASE          carries out a case and prints each line first
 
+mod answer;
+mod arguments;
 mod call;
 mod case;
 mod generate;
@@ -16,39 +18,27 @@ mod generate_words;
 mod image;
 mod judge;
 mod lent;
+mod make;
 mod model;
 mod model_names;
-#[path = "../../bench/driver/ordinary.rs"]
-mod ordinary;
+mod play;
 mod random;
-#[path = "../../../bindings/rust/src/raw.rs"]
-mod raw;
+mod refusal;
 mod rules;
+mod shapes;
 mod shrink;
 mod tally;
 
 use case::Line;
-use generate::Play;
 use judge::Judge;
 use lent::Memory;
+use play::Play;
 use random::Random;
 use std::fs::File;
 use std::io::Write;
 use std::os::unix::fs::FileExt;
 use std::process::exit;
 use std::time::Instant;
-
-/// How many records each region has room for, as the header has it.
-#[repr(C)]
-#[derive(Clone, Copy)]
-pub struct Capacities {
-    pub entries: u32,
-    pub fields: u32,
-    pub bounds: u32,
-    pub visited: u32,
-    pub pending: u32,
-    pub equals: u32,
-}
 
 /// Status of a run that met no fault, and not all that it should meet.
 const NOT_ALL_MET: i32 = 3;

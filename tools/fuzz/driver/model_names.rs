@@ -1,17 +1,18 @@
 //! What the name calls and the operators must answer, by document 01.
 
-use crate::call::{Answer, Call, Which};
-use crate::model::{BAD_NAMES, BAD_NUMBER};
+use crate::answer::Answer;
+use crate::call::{Call, Which};
+use crate::refusal;
+use shared::layout::{FLOAT, INT, NAMES_MOST, NUMBER, PATH, STRING};
 use std::cmp::Ordering;
 
-const MOST: usize = 4096;
 const LONGEST: usize = 255;
 
 /// Where each name stands in the list, or None where the bytes are no name list.
 fn places(list: &[u8]) -> Option<Vec<(usize, usize)>> {
     let number = |at: usize| Some(usize::from(u16::from_le_bytes([*list.get(at)?, *list.get(at + 1)?])));
     let count = number(0)?;
-    if count > MOST {
+    if count > NAMES_MOST as usize {
         return None;
     }
     let offsets = (0..=count).map(|i| number(2 + 2 * i)).collect::<Option<Vec<usize>>>()?;
@@ -34,10 +35,10 @@ fn places(list: &[u8]) -> Option<Vec<(usize, usize)>> {
 }
 
 pub fn names_due(call: &Call, list: &[u8]) -> Answer {
-    let Some(places) = places(list) else { return Answer::refused(BAD_NAMES) };
+    let Some(places) = places(list) else { return Answer::refused(refusal::BAD_NAMES) };
     let [a, b, ..] = call.args;
     if call.which.arguments().iter().zip([a, b]).any(|(_, n)| n as usize >= places.len()) {
-        return Answer::refused(BAD_NUMBER);
+        return Answer::refused(refusal::BAD_NUMBER);
     }
     let bytes = |(from, to): (usize, usize)| &list[from..to];
     match call.which {
@@ -59,18 +60,14 @@ pub fn names_due(call: &Call, list: &[u8]) -> Answer {
     }
 }
 
-const INT: u32 = 2;
-const FLOAT: u32 = 3;
-const STRING: u32 = 4;
-const PATH: u32 = 5;
-const NUMBER: u32 = 7;
 const ADD: u32 = 0;
+const DIV: u32 = 3;
 
 pub fn operator_due(call: &Call) -> Answer {
     let [op, left, right, ..] = call.args;
     let primitives = &call.args[1..call.which.arguments().len()];
-    if op > 3 || primitives.iter().any(|&p| p > 7) {
-        return Answer::refused(BAD_NUMBER);
+    if op > DIV || primitives.iter().any(|&p| p > NUMBER) {
+        return Answer::refused(refusal::BAD_NUMBER);
     }
     let number = |p| matches!(p, INT | FLOAT | NUMBER);
     let text = |p| matches!(p, STRING | PATH);

@@ -1,15 +1,13 @@
 //! What a question comes to when it is worked, by document 01: its steps taken one by one, on the words of the image. "Of the same kind"
 //! is of the same kind of entry, as the Rust of tix has it.
 
-use crate::call::Answer;
-use crate::image::*;
-use crate::model::{disjoint, has_functor, listed, negate, no_room, own_fields, under_number, TOO_DEEP};
-use crate::raw;
-
-const LOWER: u32 = 0;
-const UPPER: u32 = 1;
-const MISMATCH: u32 = 1;
-const MISSING_FIELD: u32 = 2;
+use crate::answer::Answer;
+use crate::image::{all_entries, lacks, mark, push, put_entries, take_off_pending};
+use crate::refusal;
+use crate::shapes::{bounds_of, disjoint, functor_of, has_functor, listed, negate, own_fields, under_number};
+use shared::image::{count, entry, pending, visited, Entry};
+use shared::layout::*;
+use shared::raw;
 
 /// The rules by which a pair is worked, as they are counted.
 #[derive(Clone, Copy)]
@@ -93,7 +91,7 @@ struct Put {
     bound: Option<[u32; 3]>,
     mark: Option<u32>,
     /// All entries, where the rule makes some.
-    entries: Option<Vec<[u32; 7]>>,
+    entries: Option<Vec<Entry>>,
     pairs: Vec<Pair>,
 }
 
@@ -102,7 +100,7 @@ fn go(rule: Rule, pairs: Vec<Pair>) -> (Rule, Next) {
 }
 
 fn mismatch(rule: Rule) -> (Rule, Next) {
-    (rule, Next::Fail(MISMATCH, None))
+    (rule, Next::Fail(MISMATCHED, None))
 }
 
 /// What `work` answers on a well formed image with a question asked; `image` becomes what it leaves.
@@ -110,7 +108,7 @@ pub fn worked(image: &mut [u32], budget: u32, hits: &mut Hits) -> Answer {
     let mut steps = 0;
     loop {
         if count(image, PENDING) == 0 {
-            image[STATE] = 0;
+            image[STATE_AT] = IDLE;
             return Answer::of(raw::YES, 0, steps, &[]);
         }
         if steps == budget {
@@ -126,9 +124,8 @@ pub fn worked(image: &mut [u32], budget: u32, hits: &mut Hits) -> Answer {
 
 /// One step: None where the question goes on, or how it failed; or the refusal, with nothing changed.
 fn step(image: &mut [u32], hits: &mut Hits) -> Result<Option<Answer>, Answer> {
-    let [sub, sup]: Pair = record(image, PENDING, count(image, PENDING) - 1).try_into().expect("two words");
-    let visited = records(image, VISITED, count(image, VISITED)).chunks_exact(2).any(|pair| pair == [sub, sup]);
-    if sub == sup || visited {
+    let &[sub, sup] = pending(image).last().expect("a pending pair");
+    if sub == sup || visited(image).contains(&[sub, sup]) {
         hits[Rule::EqualOrVisited as usize] += 1;
         take_off_pending(image, 1);
         return Ok(None);
@@ -138,13 +135,13 @@ fn step(image: &mut [u32], hits: &mut Hits) -> Result<Option<Answer>, Answer> {
     match next {
         Next::Fail(number, name) => {
             if lacks(image, VISITED, 1) {
-                return Err(no_room(VISITED));
+                return Err(Answer::no_room(VISITED));
             }
             push(image, VISITED, &[sub, sup]);
             take_off_pending(image, count(image, PENDING));
-            image[STATE] = 0;
-            if image[BREAK] == 0 {
-                image[BREAK..BREAK + 4].copy_from_slice(&[number, sub, sup, name.unwrap_or(0)]);
+            image[STATE_AT] = IDLE;
+            if image[BREAK_KIND_AT] == UNBROKEN {
+                image[BREAK_KIND_AT..=BREAK_NAME_AT].copy_from_slice(&[number, sub, sup, name.unwrap_or(0)]);
             }
             Ok(Some(Answer::of(raw::FAILED, number, 0, &[&[sub, sup], name.as_slice()].concat())))
         }
@@ -158,13 +155,6 @@ fn step(image: &mut [u32], hits: &mut Hits) -> Result<Option<Answer>, Answer> {
     }
 }
 
-fn take_off_pending(image: &mut [u32], n: usize) {
-    let left = count(image, PENDING) - n;
-    let at = offset(image, PENDING) + 2 * left;
-    image[at..at + 2 * n].fill(0);
-    image[8 + 3 * PENDING] = left as u32;
-}
-
 fn fits(image: &[u32], put: &Put) -> Result<(), Answer> {
     let entries = put.entries.as_deref().unwrap_or(&[]);
     let new = entries.len().saturating_sub(count(image, ENTRIES));
@@ -172,11 +162,11 @@ fn fits(image: &[u32], put: &Put) -> Result<(), Answer> {
     let pairs = put.pairs.len().saturating_sub(1);
     for (region, wanted) in [(ENTRIES, new), (BOUNDS, put.bound.iter().len()), (VISITED, 1), (PENDING, pairs)] {
         if lacks(image, region, wanted) {
-            return Err(no_room(region));
+            return Err(Answer::no_room(region));
         }
     }
-    if entries.iter().any(|entry| entry[5] > MOST_SPREAD) {
-        return Err(Answer::refused(TOO_DEEP));
+    if entries.iter().any(|entry| entry.spread > SPREAD_MOST) {
+        return Err(Answer::refused(refusal::TOO_DEEP));
     }
     Ok(())
 }
@@ -189,7 +179,7 @@ fn apply(image: &mut [u32], put: Put) {
         push(image, BOUNDS, &bound);
     }
     if let Some(n) = put.mark {
-        image[entry_word(image, n, 4)] |= MARK;
+        mark(image, n);
     }
     // the first is worked first: it goes to the end
     for pair in put.pairs.iter().rev() {
@@ -198,7 +188,7 @@ fn apply(image: &mut [u32], put: Put) {
 }
 
 fn is_variable(image: &[u32], n: u32) -> bool {
-    image[entry_word(image, n, 0)] == VARIABLE
+    entry(image, n).kind == VARIABLE
 }
 
 fn next(image: &[u32], sub: u32, sup: u32) -> (Rule, Next) {
@@ -207,9 +197,9 @@ fn next(image: &[u32], sub: u32, sup: u32) -> (Rule, Next) {
         (true, sup_too) => {
             let put = Put {
                 bound: (!listed(image, sub, UPPER, sup)).then_some([sub, UPPER, sup]),
-                mark: (sup_too && image[entry_word(image, sub, 4)] & MARK != 0).then_some(sup),
+                mark: (sup_too && entry(image, sub).marked()).then_some(sup),
                 entries: None,
-                pairs: bounds(image, sub, LOWER).map(|lower| [lower, sup]).collect(),
+                pairs: bounds_of(image, sub, LOWER).map(|lower| [lower, sup]).collect(),
             };
             (Rule::VariableLeft, Next::Put(put))
         }
@@ -218,32 +208,28 @@ fn next(image: &[u32], sub: u32, sup: u32) -> (Rule, Next) {
                 bound: (!listed(image, sup, LOWER, sub)).then_some([sup, LOWER, sub]),
                 mark: None,
                 entries: None,
-                pairs: bounds(image, sup, UPPER).map(|upper| [sub, upper]).collect(),
+                pairs: bounds_of(image, sup, UPPER).map(|upper| [sub, upper]).collect(),
             };
             (Rule::VariableRight, Next::Put(put))
         }
     }
 }
 
-fn bounds(image: &[u32], variable: u32, side: u32) -> impl Iterator<Item = u32> + '_ {
-    records(image, BOUNDS, count(image, BOUNDS)).chunks_exact(3).filter(move |b| b[..2] == [variable, side]).map(|b| b[2])
-}
-
 /// Both concrete: the first that fits.
 fn concrete(image: &[u32], sub: u32, sup: u32) -> (Rule, Next) {
     let (l, r) = (entry(image, sub), entry(image, sup));
-    match (l[0], r[0]) {
-        (NAMED, _) => go(Rule::NamedLeft, vec![[l[1], sup]]),
-        (_, NAMED) => go(Rule::NamedRight, vec![[sub, r[1]]]),
-        (LAMBDA, LAMBDA) => go(Rule::Lambdas, vec![[r[1], l[1]], [l[2], r[2]]]),
-        (LIST, LIST) => go(Rule::Lists, vec![[l[1], r[1]]]),
+    match (l.kind, r.kind) {
+        (NAMED, _) => go(Rule::NamedLeft, vec![[l.x, sup]]),
+        (_, NAMED) => go(Rule::NamedRight, vec![[sub, r.x]]),
+        (LAMBDA, LAMBDA) => go(Rule::Lambdas, vec![[r.x, l.x], [l.y, r.y]]),
+        (LIST, LIST) => go(Rule::Lists, vec![[l.x, r.x]]),
         (ATTRSET, ATTRSET) => attrsets(image, l, r),
-        (PRIMITIVE, PRIMITIVE) if l[1] == r[1] || under_number(l[1], r[1]) => go(Rule::Primitives, vec![]),
-        (NEG, NEG) => go(Rule::Negations, vec![[r[1], l[1]]]),
-        (PRIMITIVE..=NEG, NEG) if disjoint(image, sub as usize, r[1] as usize) => go(Rule::UnderNegation, vec![]),
+        (PRIMITIVE, PRIMITIVE) if l.x == r.x || under_number(l.x, r.x) => go(Rule::Primitives, vec![]),
+        (NEG, NEG) => go(Rule::Negations, vec![[r.x, l.x]]),
+        (PRIMITIVE..=NEG, NEG) if disjoint(image, l, entry(image, r.x)) => go(Rule::UnderNegation, vec![]),
         (PRIMITIVE..=NEG, NEG) => mismatch(Rule::NotUnderNegation),
-        (_, INTER) => go(Rule::InterRight, vec![[sub, r[1]], [sub, r[2]]]),
-        (UNION, _) => go(Rule::UnionLeft, vec![[l[1], sup], [l[2], sup]]),
+        (_, INTER) => go(Rule::InterRight, vec![[sub, r.x], [sub, r.y]]),
+        (UNION, _) => go(Rule::UnionLeft, vec![[l.x, sup], [l.y, sup]]),
         (INTER, _) => inter_on_the_left(image, l, sup),
         (_, UNION) => union_on_the_right(image, sub, r),
         (ATTRSET, LAMBDA) if has_functor(image, l) => functor(image, sub, l, r),
@@ -251,27 +237,22 @@ fn concrete(image: &[u32], sub: u32, sup: u32) -> (Rule, Next) {
     }
 }
 
-fn entry(image: &[u32], n: u32) -> &[u32] {
-    record(image, ENTRIES, n as usize)
-}
-
-fn attrsets(image: &[u32], l: &[u32], r: &[u32]) -> (Rule, Next) {
-    let dynamic = |e: &[u32]| (e[4] & DYNAMIC != 0).then_some(e[3]);
+fn attrsets(image: &[u32], l: Entry, r: Entry) -> (Rule, Next) {
     let mut pairs = Vec::new();
-    for field in own_fields(image, r) {
-        let same = own_fields(image, l).find(|own| own[0] == field[0]).map(|own| own[1]);
-        match same.or(dynamic(l)) {
-            Some(own) => pairs.push([own, field[1]]),
-            None if l[4] & OPEN == 0 && field[2] == 0 => return (Rule::MissingField, Next::Fail(MISSING_FIELD, Some(field[0]))),
+    for &[name, entry, optional] in own_fields(image, r) {
+        let same = own_fields(image, l).iter().find(|own| own[NAME_WORD] == name).map(|own| own[ENTRY_WORD]);
+        match same.or(l.dynamic()) {
+            Some(own) => pairs.push([own, entry]),
+            None if !l.open() && optional != OPTIONAL => return (Rule::MissingField, Next::Fail(FIELD_MISSING, Some(name))),
             None => (),
         }
     }
-    pairs.extend(dynamic(l).zip(dynamic(r)).map(|(left, right)| [left, right]));
+    pairs.extend(l.dynamic().zip(r.dynamic()).map(|(left, right)| [left, right]));
     go(Rule::Attrsets, pairs)
 }
 
-fn inter_on_the_left(image: &[u32], l: &[u32], sup: u32) -> (Rule, Next) {
-    let (a, b) = (l[1], l[2]);
+fn inter_on_the_left(image: &[u32], l: Entry, sup: u32) -> (Rule, Next) {
+    let (a, b) = (l.x, l.y);
     let chosen = |this, other| is_variable(image, this) || (holds_variable(image, this) && !holds_variable(image, other));
     let (c, d) = match (chosen(a, b), chosen(b, a)) {
         (true, false) => (a, b),
@@ -286,18 +267,18 @@ fn inter_on_the_left(image: &[u32], l: &[u32], sup: u32) -> (Rule, Next) {
     let (mut rule, mut target) = (Rule::InterLeftMember, sup);
     if !is_member(&entries, sup, negation) {
         (rule, target) = (Rule::InterLeftUnion, entries.len() as u32);
-        let spread = 1 + entries[sup as usize][5] + entries[negation as usize][5];
-        entries.push([UNION, sup, negation, 0, 0, spread, 0]);
+        let spread = 1 + entries[sup as usize].spread + entries[negation as usize].spread;
+        entries.push(Entry { kind: UNION, x: sup, y: negation, spread, ..Entry::default() });
     }
     (rule, Next::Put(Put { entries: Some(entries), pairs: vec![[c, target]], ..Put::default() }))
 }
 
 fn holds_variable(image: &[u32], n: u32) -> bool {
     let e = entry(image, n);
-    match e[0] {
+    match e.kind {
         VARIABLE => true,
-        NAMED => holds_variable(image, e[1]),
-        INTER => holds_variable(image, e[1]) || holds_variable(image, e[2]),
+        NAMED => holds_variable(image, e.x),
+        INTER => holds_variable(image, e.x) || holds_variable(image, e.y),
         _ => false,
     }
 }
@@ -305,24 +286,24 @@ fn holds_variable(image: &[u32], n: u32) -> bool {
 /// Whether the entry, or any member of it through inter, is concrete and disjoint from sup.
 fn member_disjoint(image: &[u32], n: u32, sup: u32) -> bool {
     let e = entry(image, n);
-    match e[0] {
-        INTER => member_disjoint(image, e[1], sup) || member_disjoint(image, e[2], sup),
-        _ => disjoint(image, n as usize, sup as usize),
+    match e.kind {
+        INTER => member_disjoint(image, e.x, sup) || member_disjoint(image, e.y, sup),
+        _ => disjoint(image, e, entry(image, sup)),
     }
 }
 
-fn is_member(entries: &[[u32; 7]], of: u32, n: u32) -> bool {
-    let e = &entries[of as usize];
+fn is_member(entries: &[Entry], of: u32, n: u32) -> bool {
+    let e = entries[of as usize];
     of == n
-        || match e[0] {
-            NAMED => is_member(entries, e[1], n),
-            UNION => is_member(entries, e[1], n) || is_member(entries, e[2], n),
+        || match e.kind {
+            NAMED => is_member(entries, e.x, n),
+            UNION => is_member(entries, e.x, n) || is_member(entries, e.y, n),
             _ => false,
         }
 }
 
-fn union_on_the_right(image: &[u32], sub: u32, r: &[u32]) -> (Rule, Next) {
-    let (a, b) = (r[1], r[2]);
+fn union_on_the_right(image: &[u32], sub: u32, r: Entry) -> (Rule, Next) {
+    let (a, b) = (r.x, r.y);
     let both = vec![[sub, a], [sub, b]];
     let one = |rule, n| go(rule, vec![[sub, n]]);
     let of_two = |concrete, variable| {
@@ -337,8 +318,8 @@ fn union_on_the_right(image: &[u32], sub: u32, r: &[u32]) -> (Rule, Next) {
         (true, false) => of_two(b, a),
         (false, true) => of_two(a, b),
         (false, false) => {
-            let apart = |n: u32| disjoint(image, sub as usize, n as usize);
-            let alike = |n| entry(image, n)[0] == entry(image, sub)[0];
+            let apart = |n| disjoint(image, entry(image, sub), entry(image, n));
+            let alike = |n| entry(image, n).kind == entry(image, sub).kind;
             match (apart(a), apart(b)) {
                 (true, true) => mismatch(Rule::UnionRightDisjoint),
                 (true, false) => one(Rule::UnionRightOneDisjoint, b),
@@ -354,14 +335,14 @@ fn union_on_the_right(image: &[u32], sub: u32, r: &[u32]) -> (Rule, Next) {
 /// Same kind (so Int or Float under Number too), or an attrset with a functor and a lambda, or it is named.
 fn compatible(image: &[u32], sub: u32, side: u32) -> bool {
     let (l, r) = (entry(image, sub), entry(image, side));
-    l[0] == r[0] || r[0] == NAMED || (l[0] == ATTRSET && r[0] == LAMBDA && has_functor(image, l))
+    l.kind == r.kind || r.kind == NAMED || (l.kind == ATTRSET && r.kind == LAMBDA && has_functor(image, l))
 }
 
-fn functor(image: &[u32], sub: u32, l: &[u32], r: &[u32]) -> (Rule, Next) {
-    let field = own_fields(image, l).find(|f| f[0] + 1 == image[FUNCTOR]).expect("a functor's field")[1];
+fn functor(image: &[u32], sub: u32, l: Entry, r: Entry) -> (Rule, Next) {
+    let field = functor_of(image, l).expect("a functor's field")[ENTRY_WORD];
     let mut entries = all_entries(image);
     let inner = entries.len() as u32;
-    entries.push([LAMBDA, r[1], r[2], 0, 0, 1, 0]);
-    entries.push([LAMBDA, sub, inner, 0, 0, 1, 0]);
+    entries.push(Entry { kind: LAMBDA, x: r.x, y: r.y, spread: 1, ..Entry::default() });
+    entries.push(Entry { kind: LAMBDA, x: sub, y: inner, spread: 1, ..Entry::default() });
     (Rule::Functor, Next::Put(Put { entries: Some(entries), pairs: vec![[field, inner + 1]], ..Put::default() }))
 }

@@ -1,8 +1,9 @@
 //! Counts what was met, and says what should have been met and was not.
 
-use crate::call::{Answer, Which, CALLS, FUNCTIONS};
-use crate::raw;
+use crate::answer::Answer;
+use crate::call::{Which, CALLS, FUNCTIONS};
 use crate::rules::{Hits, RULE_NAMES};
+use shared::raw;
 
 /// The outcomes of a call that are told apart, as places in a row: DONE without a value, with one (or, where the first value is of few
 /// kinds, each of them), YES, MORE, FAILED by number, REFUSED by number, and NO ROOM by region.

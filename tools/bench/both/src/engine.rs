@@ -1,7 +1,7 @@
 //! The two engines behind one trait: a table that is made from shapes, asked and read.
 use crate::cases::{Case, Shape};
-use crate::layout;
 use lang_check::bench::{PrimitiveTy, Table as TixTable};
+use shared::image;
 use sheafwinch::{Answer, Field, Primitive, Region, Table};
 
 /// What stands in a table after its questions.
@@ -40,17 +40,9 @@ pub trait Engine: Clone {
 pub struct Ours(pub Table);
 
 impl Ours {
-    pub fn new(case: &Case, capacities: [usize; 6]) -> Self {
+    pub fn new(case: &Case, capacities: [u32; 6]) -> Self {
         let (_, names) = case.fields_and_names();
-        Ours(Table::from_words(layout::laid(capacities, names)).expect("a laid image")).make_all(case)
-    }
-
-    /// The records of a region that are there.
-    fn records<const WIDTH: usize>(&self, region: Region) -> Vec<[u32; WIDTH]> {
-        let words = self.0.words();
-        let start = words[6 + 3 * region.number() as usize] as usize;
-        let records = words[start..].chunks_exact(WIDTH).take(self.0.count(region) as usize);
-        records.map(|record| record.try_into().expect("a whole record")).collect()
+        Ours(Table::from_words(image::laid(capacities, names as u32, 1)).expect("a laid image")).make_all(case)
     }
 }
 
@@ -78,9 +70,9 @@ impl Engine for Ours {
     }
 
     fn contents(&self) -> Contents {
-        let mut bounds = self.records::<3>(Region::Bounds);
+        let mut bounds = image::bounds(self.0.words()).to_vec();
         bounds.sort_by_key(|bound| (bound[0], bound[1]));
-        let mut visited = self.records::<2>(Region::Visited);
+        let mut visited = image::visited(self.0.words()).to_vec();
         visited.sort_unstable();
         Contents { entries: self.0.count(Region::Entries) as usize, bounds, visited }
     }

@@ -3,8 +3,6 @@
 //!        both repeat CASE TIMES    asks the questions of one case of ours so many times: for a profiler
 mod cases;
 mod engine;
-#[path = "../../driver/layout.rs"]
-mod layout;
 mod plot;
 mod tables;
 mod timing;

@@ -103,7 +103,7 @@ pub fn images(seen: &[Seen]) -> String {
     let columns =
         ["case", "entries", "fields", "bounds", "visited", "pending", "words", "check, µs", "check at the largest capacities, µs"];
     let cells = |s: &Seen| {
-        let capacities = s.capacities[..5].iter().map(|&capacity| grouped(capacity as u64));
+        let capacities = s.capacities[..5].iter().map(|&capacity| grouped(capacity.into()));
         let rest = [grouped(s.words as u64), micro(s.checks[0]), micro(s.checks[1])];
         [s.name.clone()].into_iter().chain(capacities).chain(rest).collect()
     };
@@ -115,7 +115,7 @@ pub fn making(seen: &[Seen]) -> String {
     let cells = |s: &Seen| {
         let [ours, largest, rust] = s.makes;
         let figures = [milli(ours), milli(rust), three(ours / rust), milli(largest), three(largest / rust)];
-        [s.name.clone(), grouped(s.capacities[0] as u64)].into_iter().chain(figures).collect()
+        [s.name.clone(), grouped(s.capacities[0].into())].into_iter().chain(figures).collect()
     };
     table("Making the shapes, before any question", &columns, seen.iter().map(cells))
 }

@@ -1,7 +1,7 @@
 //! Sees that both engines agree on a case, and times them in turn.
 use crate::cases::Case;
 use crate::engine::{Contents, Engine, Ours, Tix};
-use crate::layout::MOST;
+use shared::layout::MOST;
 use std::hint::black_box;
 
 /// As many rounds as fit into this time, but no fewer and no more than these; an odd number.
@@ -81,7 +81,7 @@ pub struct Seen {
     pub bounds: usize,
     pub visited: usize,
     /// Just enough for this case, and their words.
-    pub capacities: [usize; 6],
+    pub capacities: [u32; 6],
     pub words: usize,
     pub rounds: usize,
     pub ours: Seconds,
@@ -95,9 +95,9 @@ pub struct Seen {
 }
 
 /// The capacities that are just enough for a case that leaves such contents.
-fn enough(case: &Case, contents: &Contents) -> [usize; 6] {
+fn enough(case: &Case, contents: &Contents) -> [u32; 6] {
     let (fields, _) = case.fields_and_names();
-    [case.shapes.len(), fields, contents.bounds.len(), contents.visited.len(), case.pending, 0]
+    [case.shapes.len(), fields, contents.bounds.len(), contents.visited.len(), case.pending, 0].map(|count| count as u32)
 }
 
 /// Sees that the engines agree, or ends the run; then times them.
