@@ -111,11 +111,12 @@ def hold_image(tool, folder, met):
 
 
 def hold_copies(tool, folder, met):
-    """The conditions and the library on copies. How many there were."""
+    """The conditions and the library on copies: a word one or four off, or at the number of words or of entries. How many there were."""
     words, names, count = array("I", tool["words_of"](read(folder, "image"))), read(folder, "names"), 0
     if len(words) <= COPIED_MOST:
+        limits = {len(words), *words[11:12], *(count + 1 for count in words[11:12])}
         for i, word in enumerate(words):
-            for other in ({(word + by) % 2**32 for by in (1, -1, 4)} | {len(words)}) - {word}:
+            for other in ({(word + by) % 2**32 for by in (1, -1, 4)} | limits) - {word}:
                 words[i] = other
                 condition = failing(tool["check"], tuple(words))
                 same(f"check with word {i} = {other} ({condition})", condition is None, sw.check(words))
