@@ -43,7 +43,7 @@ RUST = (
     ("union on the right, one variable: a functor not compatible with a lambda", CONSTRAIN, "fn is_concrete_compatible",
      'if attr.fields.contains_key("__functor")', "if attr.fields.is_empty()"),
     ("disjoint attrsets: the left one's optional fields not looked at", DISJOINT, "if !b_open", " && !_a_opt.contains(field)", ""),
-    # one more for each rule that has none above
+    # for rules that have none above
     ("a variable under a variable bounds both", CONSTRAIN, "(true, _) =>", "self.types.storage.add_upper_bound(sub, sup);",
      "self.types.storage.add_upper_bound(sub, sup); if sup_is_var { self.types.storage.add_lower_bound(sup, sub); }"),
     ("bounds added while they are gone through are gone through too", CONSTRAIN, "(_, true) =>", "self.constrain(sub, ub)?;",
@@ -71,6 +71,10 @@ RUST = (
     ("union on the right, two variables: the right one left out", CONSTRAIN, "// Conservative: constrain to both", "self.constrain(sub_id, b)", "{ let _ = b; Ok(()) }"),
     ("union on the right, one variable: the concrete side always", CONSTRAIN, "(false, true) => {\n                if is_concrete", "self.constrain(sub_id, b)",
      "self.constrain(sub_id, a)"),
+    ("union on the right, one variable: a primitive not compatible with another", CONSTRAIN, "fn is_concrete_compatible", "discriminant_matches(sub, target_ty)",
+     "(discriminant_matches(sub, target_ty) && !matches!(sub, Ty::Primitive(_)))"),
+    ("union on the right, one variable: named not compatible", CONSTRAIN, "fn is_concrete_compatible", "TypeEntry::Concrete(Ty::Named(_, _) | Ty::Frozen(_)) => true",
+     "TypeEntry::Concrete(Ty::Named(_, _) | Ty::Frozen(_)) => false"),
     ("union on the right, both disjoint: nothing", CONSTRAIN, "match (disjoint_a, disjoint_b)", "(true, true) =>", "(true, true) if true => Ok(()), (true, true) =>"),
     ("union on the right, one disjoint: that one", CONSTRAIN, "match (disjoint_a, disjoint_b)", "(true, false) => self.constrain(sub_id, b)",
      "(true, false) => self.constrain(sub_id, a)"),
@@ -78,6 +82,8 @@ RUST = (
     ("a missing field not taken from the dynamic type", CONSTRAIN, "fn constrain_attrsets", "if let Some(sub_dyn) = sub_attr.dyn_ty",
      "if let (Some(sub_dyn), true) = (sub_attr.dyn_ty, sub_attr.open)"),
     ("an open attrset lacks a field", CONSTRAIN, "fn constrain_attrsets", "!sub_attr.open && ", ""),
+    ("a list and a lambda not disjoint", DISJOINT, "// Different constructor kinds", "(Primitive(_), AttrSet { .. })",
+     "(List, Lambda) | (Lambda, List) => false, (Primitive(_), AttrSet { .. })"),
     ("functor: the outer lambda takes the param, not the attrset", CONSTRAIN, "let functor_ty", "param: sub_id", "param"),
     ("ask equal: the second pair left out", CONSTRAIN, "self.constrain_at(a, b)?", "self.constrain_at(b, a)", "Ok(())"),
     ("a union negated as a union", TABLE, "fn alloc_concrete", "Ty::Inter(neg_a, neg_b)", "Ty::Union(neg_a, neg_b)"),
@@ -88,7 +94,7 @@ RUST = (
 
 BINDING = "sheafwinch.py"
 
-# Those that tools/differential/README.md has on our side, planted there in bindings/rust.
+# Those that tools/differential/README.md has on our side, planted there in bindings/rust; then more.
 PYTHON = (
     ("after MORE the last two pending pairs change places", BINDING, "def work(", 'told = self._call("work", budget)',
      """told, a = self._call("work", budget), self._array
@@ -104,4 +110,9 @@ PYTHON = (
         except Refusal:
             self._array[6] += 1
             raise"""),
+    ("abandon takes back the visited pairs", BINDING, "def abandon(", 'self._call("abandon")',
+     """self._call("abandon")
+        for i in (20, *range(self._array[18], self._array[21])):
+            self._array[i] = 0"""),
+    ("ask equal asks one way", BINDING, "def ask_equal(", 'self._call("ask_equal", bool(held), left, right)', 'self._call("ask", bool(held), left, right)'),
 )

@@ -226,7 +226,7 @@ def main(paths):
         try:
             hold(path)
         except Wrong as wrong:
-            print(wrong)
+            print(f"corpus: Python: {wrong}")
             status = 1
     return status
 
