@@ -1,12 +1,6 @@
+pub mod Reach
 pub mod Reading
 pub mod ReadOut
 pub mod Laying
-pub mod Placing
-pub mod Packed
-pub mod Slots
-pub mod Places
-pub mod Lent
-pub mod Reach
-pub mod Pending
 pub mod Searching
-pub mod Starting
+pub mod Lent

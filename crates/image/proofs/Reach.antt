@@ -1,25 +1,17 @@
--- A record of a region stands inside the words, by the flat statement; and a run of stores, one after the other. Assumes nothing.
-use Prim.Native.Nat.{ℕ, suc, _+_, _*_, _≤_, _<_}
+-- A record of a region stands inside the words, by where the region lies. Assumes nothing.
+use Prim.Native.Nat.{ℕ, _+_, _*_, _≤_, _<_}
 use native.Mathlib.Omega.{arith}
-use native.Mathlib.Nat.{add-suc, add-zero}
-use native.Mathlib.Numerals.{add-one}
-use mathlib.Core.Path.{_≡_, refl, sym, ap, _∙_}
-use mathlib.Core.List.{List, [], _∷_, _++_}
-use lib.ListN.{length, getD, set, take}
-use lib.Seq.{sets, take-suc, length-take-le}
-use Rattle.model.specs.Image.{offset, capacity, count}
+use native.Mathlib.Nat.{mul-le-mul-left, mul-suc}
+use mathlib.Core.Path.{_≡_}
+use mathlib.Core.List.{List}
+use lib.ListN.{length}
+use Rattle.model.specs.Image.{offset, capacity}
 use Rattle.image.specs.Laid.{At}
-use Rattle.image.proofs.Placing.{before-end}
+
+-- the words of the records up to one fit before the region's end
+pub before-end : (width n capacity : ℕ) → n < capacity → width * n + width ≤ width * capacity
+before-end width n capacity h = rw mul-suc at (mul-le-mul-left width h)
 
 -- x and y are other names of the region's offset and the record's number
 pub reach : {w : List ℕ} {k width : ℕ} → At w k width → (i x y : ℕ) → i < capacity w k → x ≡ offset w k → y ≡ i → x + width * y + width ≤ length w
 reach {w} {k} {width} at i x y h p q = rw (p, q) (let m = before-end width i (capacity w k) h in omega (arith, at .inside))
-
-sets-more : (v l : List ℕ) (i a : ℕ) → sets l i (v ++ (a ∷ [])) ≡ set (sets l i v) (i + length v) a
-sets-more [] l i a = rw (add-zero i)
-sets-more (b ∷ v) l i a = rw (add-suc i (length v)) (sets-more v (set l i b) (suc i) a ∙ ap (λ (n : ℕ). set (sets (set l i b) (suc i) v) n a) (let e : suc i + length v ≡ suc (i + length v) = omega arith in e))
-
-pub sets-next : (l r : List ℕ) (start i : ℕ) → i < length r → set (sets l start (take i r)) (start + i) (getD r i 0) ≡ sets l start (take (i + 1) r)
-sets-next l r start i h =
-    let n : length (take i r) ≡ i = length-take-le i r (omega arith) in
-    rw (add-one i, take-suc r i 0 h) (sym (sets-more (take i r) l start (getD r i 0) ∙ rw n))

@@ -14,7 +14,7 @@ use Rattle.laws.proofs.Regions.{Coded, entry-coded}
 use Rattle.laws.proofs.Round.{records-length}
 use Rattle.image.specs.Laid.{Laid, At}
 use Rattle.image.specs.Shown.{entriesOf, fieldsIn, boundsAll, visitedIn, pendingIn, equalsIn}
-use Rattle.image.proofs.Placing.{before-end}
+use Rattle.image.proofs.Reach.{before-end}
 
 module _ {A : Type 0} (of : List ℕ → A) (width : ℕ) where
   pub read-at : (n : ℕ) (l : List ℕ) (i : ℕ) (d : A) → i < n → getD (readMany of (drop width) n l) i d ≡ of (drop (width * i) l)

@@ -27,7 +27,7 @@ use Rattle.laws.proofs.Stores.{by-test}
 use Rattle.laws.proofs.Formed.{sound-table}
 use Rattle.laws.proofs.StepSound.{fitting-enough}
 use Rattle.image.proofs.Laying.{seen, seen-as, shown}
-use Rattle.image.proofs.Pending.{while-idle}
+use Rattle.writes.proofs.Pending.{while-idle}
 use Rattle.questions.specs.Asking.{Roomy, Fitness, worked}
 use Rattle.image.specs.Shown.{Shows, ShowsAs, ShownAs, storeOf, entriesOf, pendingIn, pendingTo, equalsTo}
 

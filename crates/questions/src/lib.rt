@@ -89,7 +89,7 @@ fn record_equal(image: &mut [u32], q: Question)
     if !is_recorded(q) {
         return;
     }
-    image::push_equal(image, q.left, q.right);
+    writes::push_equal(image, q.left, q.right);
 }
 
 // Puts a question's pairs, the one worked first last.
@@ -99,11 +99,11 @@ fn put_pairs(image: &mut [u32], q: Question)
     ensures { λ _. ⌜ ShowsAs idle (now (image .exit)) (pendingTo (now (image .entry)) (pendingIn (now (image .entry)) ++ pairsOf q)) ⌝ }
 {
     if !q.equal {
-        image::put_asked(image, q.left, q.right);
+        writes::put_asked(image, q.left, q.right);
         return;
     }
-    image::put_asked(image, q.right, q.left);
-    image::put_asked(image, q.left, q.right); // worked first
+    writes::put_asked(image, q.right, q.left);
+    writes::put_asked(image, q.left, q.right); // worked first
 }
 
 // Asks a question.
@@ -118,7 +118,7 @@ pub fn ask(image: &mut [u32], q: Question) -> Reply
     }
     record_equal(image, q);
     put_pairs(image, q);
-    image::open_question(image);
+    writes::open_question(image);
     Reply::Done // the question is asked
 }
 
@@ -187,6 +187,6 @@ pub fn abandon(image: &mut [u32]) -> Reply
     if !image::is_asked(image) {
         return Reply::Refused(Refusal::Idle);
     }
-    image::end_question(image);
+    writes::end_question(image);
     Reply::Done
 }

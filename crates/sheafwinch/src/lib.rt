@@ -21,7 +21,7 @@ pub fn start(image: &mut [u32], names: u32, functor: u32, capacities: image::Cap
     ensures { λ r. ⌜ toldReply r ≡ startOf names functor (capacitiesOf capacities) (now (image .entry)) .says ⌝ }
     ensures { λ _. ⌜ now (image .exit) ≡ startOf names functor (capacitiesOf capacities) (now (image .entry)) .words ⌝ }
 {
-    image::start(image, names, functor, capacities)
+    start::start(image, names, functor, capacities)
 }
 
 // Makes a variable at the current level.

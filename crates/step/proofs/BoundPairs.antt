@@ -14,7 +14,7 @@ use Rattle.laws.proofs.Stores.{by-test}
 use Rattle.image.specs.Shown.{storeOf, boundsAll, pendingIn, pendingTo}
 use Rattle.image.specs.Records.{boundAt}
 use Rattle.image.proofs.Laying.{seen-as, shown-as}
-use Rattle.image.proofs.Pending.{same-size-as}
+use Rattle.writes.proofs.Pending.{same-size-as}
 use Rattle.storage.specs.Bounds.{belongsTo}
 use Rattle.storage.proofs.Scan.{taken, left, none-left}
 use Rattle.step.specs.Taken.{Midway}

@@ -16,7 +16,7 @@ use Rattle.model.specs.declared.Failure.{Failure}
 use Rattle.image.specs.Shown.{Shows, Shown, storeOf, entriesOf, boundsAll, visitedIn, pendingIn, visitedTo, boundsTo, entriesTo, pendingTo, brokenTo}
 use Rattle.image.specs.Records.{saysMark}
 use Rattle.image.proofs.Laying.{seen, shown}
-use Rattle.image.proofs.Pending.{while-asked}
+use Rattle.writes.proofs.Pending.{while-asked}
 use Rattle.step.specs.Taken.{beforeLast, Midway}
 use Rattle.step.proofs.Rooms.{one-more}
 

@@ -14,7 +14,7 @@ use Rattle.model.specs.declared.Dynamic.the-variants.{Absent, Present}
 use Rattle.image.specs.Shown.{storeOf, fieldsIn, pendingIn, pendingTo}
 use Rattle.image.specs.Records.{fieldAt}
 use Rattle.image.proofs.Laying.{seen-as, shown-as}
-use Rattle.image.proofs.Pending.{same-size-as}
+use Rattle.writes.proofs.Pending.{same-size-as}
 use Rattle.disjoint.specs.Fields.{Inside, fieldsHeld}
 use Rattle.disjoint.proofs.Fields.{rest, none-left, whole}
 use Rattle.constrain.specs.declared.FieldAsk.{FieldAsk}

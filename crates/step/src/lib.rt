@@ -52,8 +52,8 @@ fn advance(image: &mut [u32], sub: u32, sup: u32)
     requires { ⌜ 0 < length (pendingIn (now image)) ⌝ }
     ensures { λ _. ⌜ Midway (now (image .exit)) (tableOf (visit (sub ⊑ sup) (storeOf (now (image .entry)))) (beforeLast (now (image .entry)))) ⌝ }
 {
-    image::push_visited(image, sub, sup);
-    image::pop_pending(image);
+    writes::push_visited(image, sub, sup);
+    writes::pop_pending(image);
 }
 
 // Takes the last pair off pending, with nothing to record and nothing to follow.
@@ -62,8 +62,8 @@ fn skip(image: &mut [u32])
     requires { ⌜ 0 < length (pendingIn (now image)) ⌝ }
     ensures { λ _. ⌜ Shows (now (image .exit)) (pendingTo (now (image .entry)) (beforeLast (now (image .entry)))) ⌝ }
 {
-    image::pop_pending(image);
-    image::end_if_done(image);
+    writes::pop_pending(image);
+    writes::end_if_done(image);
 }
 
 // Whether there is room for a visited pair and so many consequences, the pair taken off first.
@@ -91,9 +91,9 @@ fn fill_break(image: &mut [u32], failure: Failure)
         return;
     }
     match failure {
-        Failure::Mismatch { sub, sup } => image::put_break(image, image::MISMATCHED, sub, sup, 0),
+        Failure::Mismatch { sub, sup } => writes::put_break(image, image::MISMATCHED, sub, sup, 0),
         Failure::MissingField { sub, sup, name } => {
-            image::put_break(image, image::FIELD_MISSING, sub, sup, name)
+            writes::put_break(image, image::FIELD_MISSING, sub, sup, name)
         }
     }
 }
@@ -109,8 +109,8 @@ fn fail(image: &mut [u32], sub: u32, sup: u32, failure: Failure) -> Step
     if let StepRoom::Lacks(r) = room {
         return Step::Refused(r);
     }
-    image::push_visited(image, sub, sup);
-    image::end_question(image);
+    writes::push_visited(image, sub, sup);
+    writes::end_question(image);
     fill_break(image, failure);
     Step::Failed(failure)
 }
@@ -126,7 +126,7 @@ fn put_field_pair(image: &mut [u32], a: Attrset, j: u32)
     let ask = constrain::asks(image, a, j);
     if let FieldAsk::Under(x) = ask {
         let entry = image::field_word(image, j, image::ENTRY_WORD);
-        image::put_consequence(image, x, entry);
+        writes::put_consequence(image, x, entry);
     }
 }
 
@@ -138,7 +138,7 @@ fn put_dynamic_pair(image: &mut [u32], a: Dynamic, b: Dynamic)
 {
     if let Dynamic::Present(m) = a {
         if let Dynamic::Present(n) = b {
-            image::put_consequence(image, m, n);
+            writes::put_consequence(image, m, n);
         }
     }
 }
@@ -182,10 +182,10 @@ fn put_pairs(image: &mut [u32], pairs: Pairs)
 {
     match pairs {
         Pairs::Nothing => {}
-        Pairs::One(a, b) => image::put_consequence(image, a, b),
+        Pairs::One(a, b) => writes::put_consequence(image, a, b),
         Pairs::Two(a, b, c, d) => {
-            image::put_consequence(image, c, d);
-            image::put_consequence(image, a, b)
+            writes::put_consequence(image, c, d);
+            writes::put_consequence(image, a, b)
         }
         Pairs::Fields(a, b, _) => put_field_pairs(image, a, b),
     }
@@ -205,7 +205,7 @@ fn follow(image: &mut [u32], sub: u32, sup: u32, pairs: Pairs) -> Step
     }
     advance(image, sub, sup);
     put_pairs(image, pairs);
-    image::end_if_done(image);
+    writes::end_if_done(image);
     Step::Went
 }
 
@@ -230,7 +230,7 @@ fn make_target(image: &mut [u32], sup: u32, d: u32) -> Negated
     let spread = 1
         + image::entry_word(image, sup, image::SPREAD_WORD)
         + image::entry_word(image, n, image::SPREAD_WORD);
-    image::push_entry(image, image::UNION, sup, n, 0, 0, spread);
+    writes::push_entry(image, image::UNION, sup, n, 0, 0, spread);
     Negated::Number(number)
 }
 
@@ -269,8 +269,8 @@ fn settle(image: &mut [u32], old: u32, sub: u32, sup: u32, c: u32, target: u32) 
         return Step::Refused(Refusal::TooDeep);
     }
     advance(image, sub, sup);
-    image::put_consequence(image, c, target);
-    image::end_if_done(image);
+    writes::put_consequence(image, c, target);
+    writes::end_if_done(image);
     Step::Went
 }
 
@@ -302,8 +302,8 @@ fn follow_functor(image: &mut [u32], sub: u32, sup: u32, f: u32, param: u32, bod
     if image::entries_capacity(image) - old < 2 {
         return Step::Refused(Refusal::NoRoom(image::ENTRIES));
     }
-    image::push_entry(image, image::LAMBDA, param, body, 0, 0, 1);
-    image::push_entry(image, image::LAMBDA, sub, old, 0, 0, 1);
+    writes::push_entry(image, image::LAMBDA, param, body, 0, 0, 1);
+    writes::push_entry(image, image::LAMBDA, sub, old, 0, 0, 1);
     settle(image, old, sub, sup, f, old + 1)
 }
 
@@ -330,7 +330,7 @@ fn add_bound(image: &mut [u32], repeated: bool, v: u32, side: u32, b: u32)
     ensures { λ _. ⌜ Shows (now (image .exit)) (boundsTo (now (image .entry)) (addBound v side b (boundsAll (now (image .entry))))) ⌝ }
 {
     if !repeated {
-        image::push_bound(image, v, side, b);
+        writes::push_bound(image, v, side, b);
     }
 }
 
@@ -348,7 +348,7 @@ fn pass_mark(image: &mut [u32], v: u32, side: u32, b: u32)
         return;
     }
     if image::says_mark(image::entry_word(image, v, image::FLAGS_WORD)) {
-        image::put_mark(image, b);
+        writes::put_mark(image, b);
     }
 }
 
@@ -359,9 +359,9 @@ fn put_bound_pair(image: &mut [u32], side: u32, x: u32, b: u32)
     ensures { λ _. ⌜ Midway (now (image .exit)) (pendingTo (now (image .entry)) (pendingIn (now (image .entry)) ++ (boundPair side b x ∷ []))) ⌝ }
 {
     if side == image::LOWER {
-        image::put_consequence(image, x, b);
+        writes::put_consequence(image, x, b);
     } else {
-        image::put_consequence(image, b, x);
+        writes::put_consequence(image, b, x);
     }
 }
 
@@ -403,7 +403,7 @@ fn join_bounds(image: &mut [u32], sub: u32, sup: u32, v: u32, side: u32, b: u32)
     pass_mark(image, v, side, b);
     advance(image, sub, sup);
     put_bound_pairs(image, v, other, b);
-    image::end_if_done(image);
+    writes::end_if_done(image);
     Step::Went
 }
 

@@ -105,7 +105,7 @@ pub fn put_bound(image: &mut [u32], v: u32, side: u32, b: u32) -> Reply
     if image::bounds_capacity(image) <= n {
         return Reply::Refused(Refusal::NoRoom(image::BOUNDS));
     }
-    image::push_bound(image, v, side, b);
+    writes::push_bound(image, v, side, b);
     Reply::Done
 }
 
@@ -115,7 +115,7 @@ pub fn mark(image: &mut [u32], n: u32)
     requires { ⌜ n < length (entriesOf (now image)) ⌝ }
     ensures { λ _. ⌜ now (image .exit) ≡ words (entriesTo (now (image .entry)) (markEntry n (entriesOf (now (image .entry))))) ⌝ }
 {
-    image::put_mark(image, n);
+    writes::put_mark(image, n);
 }
 
 // Puts the variable v at level l.
@@ -124,7 +124,7 @@ pub fn set_var_level(image: &mut [u32], v: u32, l: u32)
     requires { ⌜ v < length (entriesOf (now image)) ⌝ }
     ensures { λ _. ⌜ now (image .exit) ≡ words (entriesTo (now (image .entry)) (changed (withX l) (entriesOf (now (image .entry))) v)) ⌝ }
 {
-    image::put_level(image, v, l);
+    writes::put_level(image, v, l);
 }
 
 // Enters a level.
@@ -137,7 +137,7 @@ pub fn enter_level(image: &mut [u32]) -> Reply
     if l == LEVEL_MOST {
         return Reply::Refused(Refusal::Level);
     }
-    image::put_current_level(image, l + 1);
+    writes::put_current_level(image, l + 1);
     Reply::Done
 }
 
@@ -151,6 +151,6 @@ pub fn exit_level(image: &mut [u32]) -> Reply
     if l == 0 {
         return Reply::Refused(Refusal::Level);
     }
-    image::put_current_level(image, l - 1);
+    writes::put_current_level(image, l - 1);
     Reply::Done
 }

@@ -25,7 +25,7 @@ use Rattle.laws.proofs.Regions.{read-length}
 use Rattle.image.specs.Shown.{Within, Shows, Shown, storeOf, entriesOf, fieldsIn, entriesTo, fieldsTo}
 use Rattle.image.specs.Records.{entryMade}
 use Rattle.image.proofs.Laying.{formed-shown, seen, shown}
-use Rattle.image.proofs.Pending.{same-size}
+use Rattle.writes.proofs.Pending.{same-size}
 use Rattle.type_table.specs.Made.{attrsetReply, firstField, entriesIn}
 use Rattle.type_table.proofs.Replies.{put-too-deep}
 use Rattle.type_table.proofs.WaysOut.{spread-none}

@@ -14,7 +14,7 @@ use Rattle.laws.proofs.Entries.{lt-or-ge, same-or-not, changed-length, changed-
 use Rattle.laws.proofs.Undone.{undone-is}
 use Rattle.image.specs.Shown.{Shows, Shown, entriesOf, entriesTo}
 use Rattle.image.proofs.Laying.{seen, shown}
-use Rattle.image.proofs.Pending.{same-size}
+use Rattle.writes.proofs.Pending.{same-size}
 use Rattle.type_table.specs.Made.{entriesIn}
 
 -- as many words, and the entries that they show

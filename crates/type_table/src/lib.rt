@@ -49,7 +49,7 @@ pub fn make(image: &mut [u32], kind: u32, x: u32, y: u32) -> Made
     if image::SPREAD_MOST < spread {
         return Made::Refused(Refusal::TooDeep);
     }
-    image::push_entry(image, kind, x, y, 0, 0, spread);
+    writes::push_entry(image, kind, x, y, 0, 0, spread);
     Made::Number(number)
 }
 
@@ -69,8 +69,8 @@ fn add(image: &mut [u32], kind: u32, x: u32, y: u32, spread: u32, n: u32) -> Neg
     if image::entries_capacity(image) <= number {
         return Negated::Full;
     }
-    image::push_entry(image, kind, x, y, 0, 0, spread);
-    image::put_negation(image, n, number + 1);
+    writes::push_entry(image, kind, x, y, 0, 0, spread);
+    writes::put_negation(image, n, number + 1);
     Negated::Number(number)
 }
 
@@ -81,7 +81,7 @@ fn pop_to(image: &mut [u32], old: u32)
     ensures { λ _. ⌜ Shows (now (image .exit)) (entriesTo (now (image .entry)) (take old (entriesOf (now (image .entry))))) ⌝ }
 {
     while old < image::entries_count(image) {
-        image::pop_entry(image);
+        writes::pop_entry(image);
     }
 }
 
@@ -95,7 +95,7 @@ pub fn undo(image: &mut [u32], old: u32)
     let mut i: u32 = 0;
     while i < old {
         if old < image::entry_word(image, i, image::NEGATION_WORD) {
-            image::put_negation(image, i, 0);
+            writes::put_negation(image, i, 0);
         }
         i += 1;
     }
@@ -162,7 +162,7 @@ fn put_fields(image: &mut [u32], fields: &[u32], n: usize)
     let mut i: usize = 0;
     while i < n {
         let at = image::FIELD_WIDTH * i;
-        image::push_field(image, fields[at], fields[at + 1], fields[at + 2]);
+        writes::push_field(image, fields[at], fields[at + 1], fields[at + 2]);
         i += 1;
     }
 }
@@ -229,6 +229,6 @@ pub fn make_attrset(image: &mut [u32], fields: &[u32], is_open: bool, dynamic: D
     let first = first_field(old, count);
     let typed = dynamic_type(dynamic);
     let flags = open_bit(is_open) + dynamic_bit(dynamic);
-    image::push_entry(image, image::ATTRSET, first, count, typed, flags, 1);
+    writes::push_entry(image, image::ATTRSET, first, count, typed, flags, 1);
     Made::Number(number)
 }

@@ -1,5 +1,5 @@
 -- `is_asked`: whether a question is asked.
-use Rattle.image.proofs.Places.{facts}
+use Rattle.image.proofs.Laying.{shown-laid}
 use Rattle.model.specs.Parts.{word, image}
 use Rattle.model.specs.Image.{frontAs, wordsAs}
 use Rattle.model.specs.Table.{isAsked}
@@ -16,7 +16,7 @@ use Rattle.image.proofs.is_asked.Lts as lts
 
 shared-slice-read-result : tie.Need-shared-slice-read-result
 shared-slice-read-result c =
-    let f = facts (c .before .pre) in
+    let l = shown-laid (c .before .pre) in
     omega arith
 
 returns : tie.Need-returns

@@ -3,7 +3,7 @@ use mathlib.Core.Path.{sym, _∙_}
 use borrow.Author.Tests.{not-true, not-false}
 use Rattle.model.specs.Calls.{abandonTurn}
 use Rattle.image.proofs.Laying.{formed-shown}
-use Rattle.image.proofs.Pending.{while-asked}
+use Rattle.writes.proofs.Pending.{while-asked}
 use denote.Ref.{now}
 use Rattle.questions.proofs.Asking.{asked-some, refused-so, idle-so, abandoned}
 use borrow.Author.Needs.{needs}
@@ -11,7 +11,7 @@ use Rattle.questions.proofs.abandon.Statement.{statement}
 use Rattle.questions.proofs.abandon.Tie as tie
 use Rattle.questions.proofs.abandon.Reads as reads
 use Rattle.questions.proofs.abandon.Lts as lts
-use Rattle.image.proofs.end_question.Reads as end-question-reads
+use Rattle.writes.proofs.end_question.Reads as end-question-reads
 use Rattle.image.proofs.is_asked.Reads as is-asked-reads
 
 is-asked-requires : tie.Need-is-asked-requires

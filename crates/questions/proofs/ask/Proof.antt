@@ -3,8 +3,8 @@ use mathlib.Core.Path.{subst}
 use denote.Ref.{now}
 use Rattle.model.specs.declared.Reply.{Reply}
 use Rattle.image.proofs.Laying.{formed-shown, shown-as}
-use Rattle.image.proofs.Pending.{stated}
-use Rattle.image.proofs.open_question.Reads as open-question-reads
+use Rattle.writes.proofs.Pending.{stated}
+use Rattle.writes.proofs.open_question.Reads as open-question-reads
 use Rattle.questions.specs.Asking.{Fitness}
 use Rattle.questions.proofs.Asking.{refused-so, left-so, some-put, still-idle, pairs-fit, question-open}
 use borrow.Author.Needs.{needs}

@@ -7,7 +7,7 @@ use Rattle.questions.proofs.put_pairs.Statement.{statement}
 use Rattle.questions.proofs.put_pairs.Tie as tie
 use Rattle.questions.proofs.put_pairs.Reads as reads
 use Rattle.questions.proofs.put_pairs.Lts as lts
-use Rattle.image.proofs.put_asked.Reads as put-asked-reads
+use Rattle.writes.proofs.put_asked.Reads as put-asked-reads
 
 put-asked-requires : tie.Need-put-asked-requires
 put-asked-requires c κs =

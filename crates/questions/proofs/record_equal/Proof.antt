@@ -7,7 +7,7 @@ use Rattle.questions.proofs.record_equal.Statement.{statement}
 use Rattle.questions.proofs.record_equal.Tie as tie
 use Rattle.questions.proofs.record_equal.Reads as reads
 use Rattle.questions.proofs.record_equal.Lts as lts
-use Rattle.image.proofs.push_equal.Reads as push-equal-reads
+use Rattle.writes.proofs.push_equal.Reads as push-equal-reads
 use Rattle.questions.proofs.is_recorded.Reads as is-recorded-reads
 
 is-recorded-requires : tie.Need-is-recorded-requires

@@ -1,6 +1,6 @@
 -- Refused for want of room, or gone on: proofs/Following.antt.
 use Rattle.image.proofs.Laying.{formed-shown, shown-as}
-use Rattle.image.proofs.Pending.{stated}
+use Rattle.writes.proofs.Pending.{stated}
 use Rattle.step.proofs.Rooms.{visited-room}
 use Rattle.step.proofs.Following.{follow-refused, follow-needs, follow-went}
 use borrow.Author.Needs.{needs}
@@ -8,7 +8,7 @@ use Rattle.step.proofs.follow.Statement.{statement}
 use Rattle.step.proofs.follow.Tie as tie
 use Rattle.step.proofs.follow.Reads as reads
 use Rattle.step.proofs.follow.Lts as lts
-use Rattle.image.proofs.end_if_done.Reads as end-if-done-reads
+use Rattle.writes.proofs.end_if_done.Reads as end-if-done-reads
 use Rattle.step.proofs.advance.Reads as advance-reads
 use Rattle.step.proofs.count_of.Reads as count-of-reads
 use Rattle.step.proofs.put_pairs.Reads as put-pairs-reads

@@ -3,7 +3,7 @@ use denote.Ref.{now}
 use Rattle.model.specs.Table.{_⊑_}
 use Rattle.model.specs.Rules.{otherSide}
 use Rattle.image.proofs.Laying.{formed-shown, formed-laid, shown, shown-as}
-use Rattle.image.proofs.Pending.{stated}
+use Rattle.writes.proofs.Pending.{stated}
 use Rattle.step.proofs.Joining.{bound-fits, still-entry, bound-marked, joins, then-advance, advance-needs, pairs-need, bound-refused, bound-joined}
 use borrow.Author.Needs.{needs}
 use Rattle.step.proofs.join_bounds.Statement.{statement}

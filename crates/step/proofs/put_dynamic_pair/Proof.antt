@@ -5,7 +5,7 @@ use Rattle.step.proofs.put_dynamic_pair.Statement.{statement}
 use Rattle.step.proofs.put_dynamic_pair.Tie as tie
 use Rattle.step.proofs.put_dynamic_pair.Reads as reads
 use Rattle.step.proofs.put_dynamic_pair.Lts as lts
-use Rattle.image.proofs.put_consequence.Reads as put-consequence-reads
+use Rattle.writes.proofs.put_consequence.Reads as put-consequence-reads
 
 enum-known-a : tie.Need-enum-known-a
 enum-known-a c = search needs

@@ -10,7 +10,7 @@ use Rattle.step.proofs.put_field_pair.Reads as reads
 use Rattle.step.proofs.put_field_pair.Lts as lts
 use Rattle.constrain.proofs.asks.Reads as asks-reads
 use Rattle.image.proofs.field_word.Reads as field-word-reads
-use Rattle.image.proofs.put_consequence.Reads as put-consequence-reads
+use Rattle.writes.proofs.put_consequence.Reads as put-consequence-reads
 
 asks-requires : tie.Need-asks-requires
 asks-requires c κs = let p = c .before .before .pre in (as-laid (p .0), (p .1 .0, p .1 .1 .0))

@@ -5,7 +5,7 @@ use Rattle.step.proofs.put_pairs.Statement.{statement}
 use Rattle.step.proofs.put_pairs.Tie as tie
 use Rattle.step.proofs.put_pairs.Reads as reads
 use Rattle.step.proofs.put_pairs.Lts as lts
-use Rattle.image.proofs.put_consequence.Reads as put-consequence-reads
+use Rattle.writes.proofs.put_consequence.Reads as put-consequence-reads
 use Rattle.step.proofs.put_field_pairs.Reads as put-field-pairs-reads
 
 enum-told : tie.Need-enum-told

@@ -1,6 +1,6 @@
 -- Each place hands what it knows to the laws of Settling.
 use Rattle.image.proofs.Laying.{shown-laid, shown-as}
-use Rattle.image.proofs.Pending.{stated}
+use Rattle.writes.proofs.Pending.{stated}
 use Rattle.step.proofs.Settling.{settle-full, settle-deep, settle-push, settle-went}
 use borrow.Author.Needs.{needs}
 use Rattle.step.proofs.settle.Statement.{statement}

@@ -1,6 +1,6 @@
 -- `skip`: the last pair taken off, and the question ended where it was the last of all.
 use Rattle.image.proofs.Laying.{shown-as}
-use Rattle.image.proofs.Pending.{while-asked, stated}
+use Rattle.writes.proofs.Pending.{while-asked, stated}
 use borrow.Author.Needs.{needs}
 use Rattle.step.proofs.skip.Statement.{statement}
 use Rattle.step.proofs.skip.Tie as tie
