@@ -5,8 +5,7 @@ use mathlib.Core.Path.{_≡_, sym, ap, _∙_, subst}
 use mathlib.Core.List.{List}
 use lib.ListN.{length}
 use lib.Dec.{T}
-use Rattle.model.specs.Format.{regions, newest, headerWords}
-use Rattle.model.specs.Table.{Table, stateOf}
+use Rattle.model.specs.Table.{Table}
 use Rattle.model.specs.Image.{imageLength, frontAs, wordsAs, table}
 use Rattle.model.specs.Formed.{wellFormed}
 use Rattle.laws.proofs.Parts.{image-right}

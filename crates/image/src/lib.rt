@@ -5,24 +5,17 @@ use model::Attrset;
 use model::Dynamic;
 use model::Entry;
 ghost use mathlib.Core.Path.{_≡_};
-ghost use mathlib.Core.List.{[], _∷_, _++_};
 ghost use Prim.Native.Nat.{_+_, _-_, _*_, _≤_, _<_};
-ghost use lib.ListN.{length, set, take, drop, replicate};
-ghost use lib.Seq.{sets};
-ghost use Rattle.model.specs.Format.{regions, newest, wordEnd, formatAt, formatWord, namesAt, functorAt, capacityAt, countAt, idle, asked, entryWidth, fieldWidth, boundWidth, visitedWidth, pendingWidth, equalsWidth};
+ghost use lib.ListN.{length, drop};
+ghost use Rattle.model.specs.Format.{wordEnd, capacityAt, countAt, entryWidth, fieldWidth, boundWidth, visitedWidth, pendingWidth, equalsWidth};
 ghost use Rattle.model.specs.Lists.{any, readMany};
 ghost use Rattle.model.specs.Table.{_⊑_, entryAt, isAsked};
-ghost use Rattle.model.specs.Image.{word, offset, capacity, count, table, inOrder, imageLength, visitedOf, entryWords, fieldWords, boundWords, visitedWords, pendingWords, equalWords};
-ghost use Rattle.model.specs.Making.{changed, withNegation, withMark};
-ghost use Rattle.model.specs.Calls.{readOut, withX, allSmall, capacitiesRight, start as startOf};
+ghost use Rattle.model.specs.Image.{word, offset, capacity, count, table, visitedOf, entryWords, fieldWords, boundWords, visitedWords, pendingWords, equalWords};
+ghost use Rattle.model.specs.Calls.{readOut};
 ghost use Rattle.model.specs.Rules.{samePair, isVisited};
-ghost use Rattle.model.specs.Told.{toldReply};
-ghost use Rattle.laws.specs.Good.{Small};
 ghost use Rattle.image.specs.Laid.{Laid, At};
-ghost use Rattle.image.specs.Shown.{Shows, Shown, ShowsAs, ShownAs, storeOf, entriesOf, fieldsIn, boundsAll, visitedIn, pendingIn, equalsIn};
-ghost use Rattle.image.specs.Shown.{entriesTo, fieldsTo, boundsTo, visitedTo, pendingTo, equalsTo, brokenTo, levelTo};
-ghost use Rattle.image.specs.Stores.{appended, removed, capacitiesOf, headed};
-ghost use Rattle.image.specs.Records.{entryMade, fieldAt, boundAt, visitedAt, pendingAt, equalAt, saysMark, saysOpen, saysDynamic, dynamicRead, attrsetRead};
+ghost use Rattle.image.specs.Shown.{Shown, storeOf, entriesOf, fieldsIn, boundsAll, visitedIn, pendingIn, equalsIn};
+ghost use Rattle.image.specs.Records.{fieldAt, boundAt, visitedAt, pendingAt, equalAt, saysMark, saysOpen, saysDynamic, dynamicRead, attrsetRead};
 
 // How many records each region takes.
 pub struct Capacities {

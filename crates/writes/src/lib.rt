@@ -1,24 +1,20 @@
 // What changes an image: records put behind the last of a region and taken off, words of an entry, the break, the level, and the doors
 // through which a question is opened and ended. Each says which table the words show then.
 ghost use mathlib.Core.Path.{_≡_};
-ghost use mathlib.Core.List.{[], _∷_, _++_};
+ghost use mathlib.Core.List.{_∷_, _++_};
 ghost use Prim.Native.Nat.{_+_, _-_, _*_, _≤_, _<_};
-ghost use lib.ListN.{length, set, take, drop, replicate};
+ghost use lib.ListN.{length, set, take, replicate};
 ghost use lib.Seq.{sets};
-ghost use Rattle.model.specs.Format.{regions, newest, wordEnd, formatAt, formatWord, namesAt, functorAt, capacityAt, countAt, idle, asked, entryWidth, fieldWidth, boundWidth, visitedWidth, pendingWidth, equalsWidth};
-ghost use Rattle.model.specs.Lists.{any, readMany};
-ghost use Rattle.model.specs.Table.{_⊑_, entryAt, isAsked};
-ghost use Rattle.model.specs.Image.{word, offset, capacity, count, table, inOrder, imageLength, visitedOf, entryWords, fieldWords, boundWords, visitedWords, pendingWords, equalWords};
+ghost use Rattle.model.specs.Format.{idle, asked, entryWidth};
+ghost use Rattle.model.specs.Table.{_⊑_};
+ghost use Rattle.model.specs.Image.{capacity, count, table};
 ghost use Rattle.model.specs.Making.{changed, withNegation, withMark};
-ghost use Rattle.model.specs.Calls.{readOut, withX, allSmall, capacitiesRight, start as startOf};
-ghost use Rattle.model.specs.Rules.{samePair, isVisited};
-ghost use Rattle.model.specs.Told.{toldReply};
-ghost use Rattle.laws.specs.Good.{Small};
+ghost use Rattle.model.specs.Calls.{withX};
 ghost use Rattle.image.specs.Laid.{Laid, At};
 ghost use Rattle.image.specs.Shown.{Shows, Shown, ShowsAs, ShownAs, storeOf, entriesOf, fieldsIn, boundsAll, visitedIn, pendingIn, equalsIn};
 ghost use Rattle.image.specs.Shown.{entriesTo, fieldsTo, boundsTo, visitedTo, pendingTo, equalsTo, brokenTo, levelTo};
-ghost use Rattle.image.specs.Stores.{appended, removed, capacitiesOf, headed};
-ghost use Rattle.image.specs.Records.{entryMade, fieldAt, boundAt, visitedAt, pendingAt, equalAt, saysMark, saysOpen, saysDynamic, dynamicRead, attrsetRead};
+ghost use Rattle.image.specs.Stores.{appended, removed};
+ghost use Rattle.image.specs.Records.{entryMade};
 
 // Writes a record's words into a region that is lent from its offset on.
 pub fn put_row(region: &mut [u32], start: usize, row: &[u32])
