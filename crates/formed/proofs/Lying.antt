@@ -12,7 +12,7 @@ use lib.Dec.{eqb, leb}
 use borrow.Author.Tests.{eq-eqb, ne-eqb, le-leb, lt-leb}
 use Rattle.model.specs.Lists.{allOf}
 use Rattle.model.specs.Format.{Region, noRegion, rows, regions, newest}
-use Rattle.model.specs.Parts.{word, offset, capacity, count, regionRight, regionsRight, restZero, restsZero}
+use Rattle.model.specs.Parts.{word, regionRight, regionsRight, restZero, restsZero}
 use Rattle.image.specs.Laid.{Laid}
 use Rattle.formed.specs.Grouped.{RegionInside}
 

@@ -41,9 +41,3 @@ module _ {state : ℕ} {w : List ℕ} {t : Table} (s : ShowsAs state w t) where
 
 pub shown : {w : List ℕ} {t : Table} → Shows w t → Shown w
 shown {w} {t} s = subst (λ (u : Table). Shows w u) (sym (seen s)) s
-
-pub seen-as : {state : ℕ} {w : List ℕ} {t : Table} → ShowsAs state w t → table w ≡ t
-seen-as s = seen s
-
-pub as-laid : {state : ℕ} {w : List ℕ} {t : Table} → ShowsAs state w t → Laid w
-as-laid s = shown-laid s

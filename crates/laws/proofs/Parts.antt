@@ -6,9 +6,9 @@ use mathlib.Core.Path.{_≡_, refl, sym, ap, _∙_}
 use mathlib.Core.List.{List, [], _∷_, _++_, append-assoc}
 use lib.ListN.{length, getD, take, drop, length-append, length-drop, take-append-drop}
 use lib.Seq.{take-at, drop-at, drop-drop, drop-cons, drop-length, getD-drop, length-take-le}
-use lib.Dec.{T, eqb, leb}
+use lib.Dec.{T}
 use Rattle.model.specs.Format.{Region, noRegion, headerOf}
-use Rattle.model.specs.Parts.{word, offset, capacity, count, Part, noPart, past, triples, bodies, image, partAt, partsFrom, regionRight, regionsRight, restZero, restsZero, Fits, Fit, done, _then_}
+use Rattle.model.specs.Parts.{word, offset, capacity, count, Part, noPart, past, triples, bodies, image, partAt, partsFrom, regionRight, regionsRight, restZero, restsZero, InRegion, InRegions, done, _then_}
 use Rattle.laws.proofs.Tests.{both, first, second, nth, none, _and_, all-passed, le-of, eq-of, of-le, of-eq}
 
 pub parts-length : (rs : List Region) (k : ℕ) (ws : List ℕ) → length (partsFrom rs k ws) ≡ length rs
@@ -16,7 +16,7 @@ unfolding partsFrom
 parts-length [] k ws = refl
 parts-length (r ∷ rs) k ws = ap suc (parts-length rs (suc k) ws)
 
-pub fit-length : {rs : List Region} {ps : List Part} → Fit rs ps → length ps ≡ length rs
+pub fit-length : {rs : List Region} {ps : List Part} → InRegions rs ps → length ps ≡ length rs
 fit-length done = refl
 fit-length (x then xs) = ap suc (fit-length xs)
 
@@ -106,7 +106,7 @@ pub data Lies (ws : List ℕ) : ℕ → ℕ → List Part → Type 0 where
 
 module _ {ws : List ℕ} where
   -- parts that lie in words are read off them, and pass the tests
-  pub lie-back : {rs : List Region} {ps : List Part} {k at : ℕ} → Fit rs ps → Lies ws k at ps → partsFrom rs k ws ≡ ps
+  pub lie-back : {rs : List Region} {ps : List Part} {k at : ℕ} → InRegions rs ps → Lies ws k at ps → partsFrom rs k ws ≡ ps
   unfolding partsFrom
   lie-back done (end e) = refl
   lie-back (_then_ {r = r} {p = p} {rs = rs} {ps = ps} x xs) (next {k = k} {at = at} o c n w l) =
@@ -115,7 +115,7 @@ module _ {ws : List ℕ} where
       let ih = lie-back xs l in
       λ i. record { width = a i; capacity = c i; count = n i; words = b i } ∷ ih i
 
-  pub lie-right : {rs : List Region} {ps : List Part} {k at : ℕ} → Fit rs ps → Lies ws k at ps → T (regionsRight rs k at ws)
+  pub lie-right : {rs : List Region} {ps : List Part} {k at : ℕ} → InRegions rs ps → Lies ws k at ps → T (regionsRight rs k at ws)
   unfolding regionsRight regionRight
   lie-right {k = k} {at = at} done (end e) = of-eq at (length ws) e
   lie-right (_then_ {r = r} {p = p} {rs = rs} {ps = ps} x xs) (next {k = k} {at = at} o c n w l) =
@@ -125,7 +125,7 @@ module _ {ws : List ℕ} where
       (all-passed _ (of-eq (offset ws k) at o and of-le (capacity ws k) (r .most) (rw c (x .small)) and of-le (count ws k) (capacity ws k) (rw (c, n) (x .held)) and none)) ih
 
   -- parts written lie there
-  lie : {rs : List Region} {ps : List Part} → Fit rs ps → (k at : ℕ) (r : List ℕ) → drop (6 + 3 * k) ws ≡ triples at ps ++ r → drop at ws ≡ bodies ps → at ≤ length ws → Lies ws k at ps
+  lie : {rs : List Region} {ps : List Part} → InRegions rs ps → (k at : ℕ) (r : List ℕ) → drop (6 + 3 * k) ws ≡ triples at ps ++ r → drop at ws ≡ bodies ps → at ≤ length ws → Lies ws k at ps
   unfolding triples bodies
   lie done k at r t b h = let e : at ≡ length ws = omega (arith, length-drop at ws, ap length b) in end e
   lie (_then_ {p = p} {ps = ps} x xs) k at r t b h =
@@ -159,7 +159,7 @@ unfolding triples
 triples-length at [] = refl
 triples-length at (p ∷ ps) = let h = triples-length (past at p) ps in omega arith
 
-module _ (front : List ℕ) (n : length front ≡ 9) {rs : List Region} {ps : List Part} (f : Fit rs ps) where
+module _ (front : List ℕ) (n : length front ≡ 9) {rs : List Region} {ps : List Part} (f : InRegions rs ps) where
   pub image-lies : Lies (image front ps) 1 (headerOf rs) ps
   unfolding image
   image-lies =
@@ -179,7 +179,7 @@ module _ (front : List ℕ) (n : length front ≡ 9) {rs : List Region} {ps : Li
   image-right = lie-right f image-lies
 
 -- parts read off words that pass the tests have their shapes
-pub parts-fit : (rs : List Region) (k at : ℕ) (ws : List ℕ) → T (regionsRight rs k at ws) → Fit rs (partsFrom rs k ws)
+pub parts-fit : (rs : List Region) (k at : ℕ) (ws : List ℕ) → T (regionsRight rs k at ws) → InRegions rs (partsFrom rs k ws)
 unfolding partsFrom
 parts-fit [] k at ws h = done
 parts-fit (r ∷ rs) k at ws h =
@@ -190,12 +190,12 @@ parts-fit (r ∷ rs) k at ws h =
     then parts-fit rs (suc k) (at + r .width * capacity ws k) ws (on r rs k at ws h)
 
 -- one part of its region
-pub fit-at : {rs : List Region} {ps : List Part} → Fit rs ps → (j : ℕ) → j < length rs → Fits (getD rs j noRegion) (getD ps j noPart)
+pub fit-at : {rs : List Region} {ps : List Part} → InRegions rs ps → (j : ℕ) → j < length rs → InRegion (getD rs j noRegion) (getD ps j noPart)
 fit-at done j h = absurd (omega arith)
 fit-at (x then xs) zero h = x
 fit-at (x then xs) (suc j) h = fit-at xs j (omega arith)
 
-pub fit-drop : {rs : List Region} {ps : List Part} (n : ℕ) → Fit rs ps → Fit (drop n rs) (drop n ps)
+pub fit-drop : {rs : List Region} {ps : List Part} (n : ℕ) → InRegions rs ps → InRegions (drop n rs) (drop n ps)
 fit-drop zero f = f
 fit-drop (suc n) done = done
 fit-drop (suc n) (x then xs) = fit-drop n xs

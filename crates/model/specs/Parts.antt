@@ -7,7 +7,7 @@ use lib.ListN.{length, getD, set, take, drop}
 use lib.Seq.{sets}
 use lib.Dec.{eqb, leb}
 use Rattle.model.specs.Lists.{isZero, allOf, all}
-use Rattle.model.specs.Format.{Region, headerOf, offsetAt, capacityAt, countAt}
+use Rattle.model.specs.Format.{Region, offsetAt, capacityAt, countAt}
 
 -- word i; past the end, 0
 abbrev pub word : List ℕ → ℕ → ℕ
@@ -75,16 +75,16 @@ restsZero [] k ws = true
 restsZero (r ∷ rs) k ws = restZero ws k (r .width) && restsZero rs (suc k) ws
 
 -- a part of a region
-pub record Fits (r : Region) (p : Part) : Type 0 where
+pub record InRegion (r : Region) (p : Part) : Type 0 where
   pub wide : p .width ≡ r .width
   pub small : p .capacity ≤ r .most
   pub held : p .count ≤ p .capacity
   pub full : length (p .words) ≡ p .width * p .capacity
 
 infixr 30 _then_
-pub data Fit : List Region → List Part → Type 0 where
-  done : Fit [] []
-  _then_ : {r : Region} {p : Part} {rs : List Region} {ps : List Part} → Fits r p → Fit rs ps → Fit (r ∷ rs) (p ∷ ps)
+pub data InRegions : List Region → List Part → Type 0 where
+  done : InRegions [] []
+  _then_ : {r : Region} {p : Part} {rs : List Region} {ps : List Part} → InRegion r p → InRegions rs ps → InRegions (r ∷ rs) (p ∷ ps)
 
 -- a part with some words stored from its word i on, and n counted
 abbrev pub stored : ℕ → List ℕ → ℕ → Part → Part

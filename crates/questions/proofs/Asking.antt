@@ -26,7 +26,7 @@ use Rattle.laws.proofs.Replies.{refused-by, passed-by}
 use Rattle.laws.proofs.Stores.{by-test}
 use Rattle.laws.proofs.Formed.{sound-table}
 use Rattle.laws.proofs.StepSound.{fitting-enough}
-use Rattle.image.proofs.Laying.{seen, seen-as, shown}
+use Rattle.image.proofs.Laying.{seen, shown}
 use Rattle.writes.proofs.Pending.{while-idle}
 use Rattle.questions.specs.Asking.{Roomy, Fitness, worked}
 use Rattle.image.specs.Shown.{Shows, ShowsAs, ShownAs, storeOf, entriesOf, pendingIn, pendingTo, equalsTo}
@@ -205,13 +205,13 @@ module _ (q : Question) where
       pub second-fits : q .equal ≡ true → length (pendingIn v) < storeOf v .capacities .pending
       second-fits e =
           let k : length (pendingIn w ++ ((q .right ⊑ q .left) ∷ [])) < storeOf w .capacities .pending = simp length-append (omega (arith, ap length (two-ways e))) in
-          subst (λ (t : Table). length (t .pending) < t .store .capacities .pending) (sym (seen-as put)) k
+          subst (λ (t : Table). length (t .pending) < t .store .capacities .pending) (sym (seen put)) k
 
       pub two-put : (x : List ℕ) → q .equal ≡ true → ShowsAs idle x (pendingTo v (pendingIn v ++ ((q .left ⊑ q .right) ∷ []))) → ShowsAs idle x (pendingTo w (pendingIn w ++ pairsOf q))
       two-put x e s =
           let a : (pendingIn w ++ ((q .right ⊑ q .left) ∷ [])) ++ ((q .left ⊑ q .right) ∷ []) ≡ pendingIn w ++ pairsOf q
           = append-assoc (pendingIn w) _ _ ∙ ap (λ (l : List Pair). pendingIn w ++ l) (sym (two-ways e)) in
-          let k = subst (λ (t : Table). ShowsAs idle x (tableOf (t .store) (t .pending ++ ((q .left ⊑ q .right) ∷ [])))) (seen-as put) s in
+          let k = subst (λ (t : Table). ShowsAs idle x (tableOf (t .store) (t .pending ++ ((q .left ⊑ q .right) ∷ [])))) (seen put) s in
           subst (λ (l : List Pair). ShowsAs idle x (pendingTo w l)) a k
 
   pub one-put : (w v : List ℕ) → q .equal ≡ false → ShowsAs idle v (pendingTo w (pendingIn w ++ ((q .left ⊑ q .right) ∷ []))) → ShowsAs idle v (pendingTo w (pendingIn w ++ pairsOf q))
@@ -221,7 +221,7 @@ module _ (q : Question) where
   unfolding pairsOf
   some-put w put =
       let some : 0 < length (pairsOf q) = by-test (λ (l : List Pair). 0 < length l) (q .equal) (λ h. omega arith) (λ h. omega arith) in
-      omega (arith, ap (λ (t : Table). length (t .pending)) (seen-as put), length-append (pendingIn w) (pairsOf q), some)
+      omega (arith, ap (λ (t : Table). length (t .pending)) (seen put), length-append (pendingIn w) (pairsOf q), some)
 
   -- both, one after the other
   module _ (w v : List ℕ) (none : pendingIn w ≡ []) (s : Shows v (tableOf (recorded q (storeOf w)) (pendingIn w))) where

@@ -13,7 +13,7 @@ use Rattle.model.specs.Rules.{boundPair}
 use Rattle.laws.proofs.Stores.{by-test}
 use Rattle.image.specs.Shown.{storeOf, boundsAll, pendingIn, pendingTo}
 use Rattle.image.specs.Records.{boundAt}
-use Rattle.image.proofs.Laying.{seen-as, shown-as}
+use Rattle.image.proofs.Laying.{seen, shown-as}
 use Rattle.writes.proofs.Pending.{same-size-as}
 use Rattle.storage.specs.Bounds.{belongsTo}
 use Rattle.storage.proofs.Scan.{taken, left, none-left}
@@ -51,7 +51,7 @@ module _ (w₀ : List ℕ) (v side b i : ℕ) (w : List ℕ) (p : Paired w₀ v 
   paired-shown = shown-as (p .shows)
 
   same-bounds : boundsAll w ≡ boundsAll w₀
-  same-bounds = ap (λ (t : Table). t .store .bounds) (seen-as (p .shows))
+  same-bounds = ap (λ (t : Table). t .store .bounds) (seen (p .shows))
 
   module _ (h : 0 < i) where
     pub paired-inside : i - 1 < length (boundsAll w)
@@ -74,7 +74,7 @@ module _ (w₀ : List ℕ) (v side b i : ℕ) (w : List ℕ) (p : Paired w₀ v 
           let m : length (pairsFrom bs v side b i) ≡ length l = length-reverse (map (boundPair side b) l) ∙ length-map l (boundPair side b) in
           let k : length (pendingIn w₀ ++ pairsFrom bs v side b i) < storeOf w₀ .capacities .pending =
           omega (arith, length-append (pendingIn w₀) (pairsFrom bs v side b i), m, ap length one-taken, fewer bs (i - 1) v side, p .room) in
-          subst (λ (u : Table). length (u .pending) < u .store .capacities .pending) (sym (seen-as (p .shows))) k
+          subst (λ (u : Table). length (u .pending) < u .store .capacities .pending) (sym (seen (p .shows))) k
 
       pub paired-more : (x : ℕ) (u : List ℕ) → x ≡ boundAt (boundsAll w) (i - 1) .bound → Midway u (pendingTo w (pendingIn w ++ (boundPair side b x ∷ []))) → Paired w₀ v side b (i - 1) u
       paired-more x u e su =
@@ -88,7 +88,7 @@ module _ (w₀ : List ℕ) (v side b i : ℕ) (w : List ℕ) (p : Paired w₀ v 
           ∙ ap (λ (z : List Pair). pendingIn w₀ ++ z)
           (ap (λ (n : ℕ). pairsFrom bs v side b i ++ (f n ∷ [])) x≡y ∙ sym (reverse-cons (f y) (map f l)) ∙ ap (λ (z : List ℕ). reverse (map f z)) (sym one-taken)) in
           let a : Midway u (pendingTo w₀ ((pendingIn w₀ ++ pairsFrom bs v side b i) ++ (f x ∷ []))) =
-          subst (λ (z : Table). Midway u (tableOf (z .store) (z .pending ++ (f x ∷ [])))) (seen-as (p .shows)) su in
+          subst (λ (z : Table). Midway u (tableOf (z .store) (z .pending ++ (f x ∷ [])))) (seen (p .shows)) su in
           record { shows = subst (λ (z : List Pair). Midway u (pendingTo w₀ z)) q a; upto = omega (arith, p .upto); room = p .room }
 
     pub paired-skip : belongsTo v side (boundAt (boundsAll w) (i - 1)) ≡ false → Paired w₀ v side b (i - 1) w

@@ -13,7 +13,7 @@ use Rattle.model.specs.declared.Dynamic.{Dynamic}
 use Rattle.model.specs.declared.Dynamic.the-variants.{Absent, Present}
 use Rattle.image.specs.Shown.{storeOf, fieldsIn, pendingIn, pendingTo}
 use Rattle.image.specs.Records.{fieldAt}
-use Rattle.image.proofs.Laying.{seen-as, shown-as}
+use Rattle.image.proofs.Laying.{seen, shown-as}
 use Rattle.writes.proofs.Pending.{same-size-as}
 use Rattle.disjoint.specs.Fields.{Inside, fieldsHeld}
 use Rattle.disjoint.proofs.Fields.{rest, none-left, whole}
@@ -128,9 +128,9 @@ module _ (w : List ℕ) (a b : Attrset) {v : List ℕ} (s : Midway v (pendingTo 
       let n = length-append (pendingIn w) ds in
       record {
         shown = shown-as s;
-        sub = subst (λ (t : Table). Inside (t .store .fields) a) (sym (seen-as s)) h;
-        sup = subst (λ (t : Table). Inside (t .store .fields) b) (sym (seen-as s)) k;
-        room = subst (λ (t : Table). length (t .pending) + length (pairsAsked a (fieldsHeld (t .store .fields) a) (fieldsHeld (t .store .fields) b)) ≤ t .store .capacities .pending) (sym (seen-as s)) (omega arith);
+        sub = subst (λ (t : Table). Inside (t .store .fields) a) (sym (seen s)) h;
+        sup = subst (λ (t : Table). Inside (t .store .fields) b) (sym (seen s)) k;
+        room = subst (λ (t : Table). length (t .pending) + length (pairsAsked a (fieldsHeld (t .store .fields) a) (fieldsHeld (t .store .fields) b)) ≤ t .store .capacities .pending) (sym (seen s)) (omega arith);
       }
 
 -- where the loop stands: the pairs from field j on are there, last first
@@ -150,11 +150,11 @@ module _ {w₀ : List ℕ} {a b : Attrset} {j : ℕ} {w : List ℕ} (p : Putting
   putting-shown = shown-as (p .shows)
 
   pub putting-inside : Inside (fieldsIn w) a
-  putting-inside = subst (λ (t : Table). Inside (t .store .fields) a) (sym (seen-as (p .shows))) (p .before .sub)
+  putting-inside = subst (λ (t : Table). Inside (t .store .fields) a) (sym (seen (p .shows))) (p .before .sub)
 
   module _ (h : b .first < j) where
     pub putting-there : j - 1 < length (fieldsIn w)
-    putting-there = subst (λ (t : Table). j - 1 < length (t .store .fields)) (sym (seen-as (p .shows))) (omega (arith, p .high, p .before .sup))
+    putting-there = subst (λ (t : Table). j - 1 < length (t .store .fields)) (sym (seen (p .shows))) (omega (arith, p .high, p .before .sup))
 
     last-is : reverse (pairsFrom (fieldsIn w₀) a b (j - 1)) ≡ reverse (pairsFrom (fieldsIn w₀) a b j) ++ fieldPair (fieldsIn w₀) a (j - 1)
     last-is =
@@ -175,13 +175,13 @@ module _ {w₀ : List ℕ} {a b : Attrset} {j : ℕ} {w : List ℕ} (p : Putting
         let y = length-reverse (pairsFrom fs a b (j - 1)) in
         let m = length-append (pendingIn w₀) (reverse (pairsFrom fs a b j)) in
         let r = p .before .room in
-        subst (λ (t : Table). length (t .pending) + length (fieldPair (t .store .fields) a (j - 1)) ≤ t .store .capacities .pending) (sym (seen-as (p .shows))) (omega arith)
+        subst (λ (t : Table). length (t .pending) + length (fieldPair (t .store .fields) a (j - 1)) ≤ t .store .capacities .pending) (sym (seen (p .shows))) (omega arith)
 
     pub putting-more : {v : List ℕ} → Midway v (pendingTo w (pendingIn w ++ fieldPair (fieldsIn w) a (j - 1))) → Putting w₀ a b (j - 1) v
     putting-more {v} s =
         let ps : List Pair = reverse (pairsFrom (fieldsIn w₀) a b j) in
         let f : List Pair = fieldPair (fieldsIn w₀) a (j - 1) in
-        let t : Midway v (pendingTo w₀ ((pendingIn w₀ ++ ps) ++ f)) = subst (λ (t : Table). Midway v (tableOf (t .store) (t .pending ++ fieldPair (t .store .fields) a (j - 1)))) (seen-as (p .shows)) s in
+        let t : Midway v (pendingTo w₀ ((pendingIn w₀ ++ ps) ++ f)) = subst (λ (t : Table). Midway v (tableOf (t .store) (t .pending ++ fieldPair (t .store .fields) a (j - 1)))) (seen (p .shows)) s in
         let q : (pendingIn w₀ ++ ps) ++ f ≡ pendingIn w₀ ++ reverse (pairsFrom (fieldsIn w₀) a b (j - 1)) =
         append-assoc (pendingIn w₀) ps f ∙ ap (λ (l : List Pair). pendingIn w₀ ++ l) (sym last-is) in
         record { before = p .before; shows = subst (λ (l : List Pair). Midway v (pendingTo w₀ l)) q t; low = omega arith; high = omega (arith, p .high) }
@@ -198,7 +198,7 @@ putting-end w a b {v} {u} {j} s p h =
     let x : Midway u (pendingTo v (pendingIn v ++ reverse (pairsAsked a (fieldsHeld (fieldsIn v) a) (fieldsHeld (fieldsIn v) b)))) =
     subst (λ (l : List Pair). Midway u (pendingTo v (pendingIn v ++ reverse l))) q (p .shows) in
     let y : Midway u (pendingTo w ((pendingIn w ++ ds) ++ reverse qs)) =
-    subst (λ (t : Table). Midway u (tableOf (t .store) (t .pending ++ reverse (pairsAsked a (fieldsHeld (t .store .fields) a) (fieldsHeld (t .store .fields) b))))) (seen-as s) x in
+    subst (λ (t : Table). Midway u (tableOf (t .store) (t .pending ++ reverse (pairsAsked a (fieldsHeld (t .store .fields) a) (fieldsHeld (t .store .fields) b))))) (seen s) x in
     let z : (pendingIn w ++ ds) ++ reverse qs ≡ pendingIn w ++ reverse (qs ++ ds) =
     append-assoc (pendingIn w) ds (reverse qs)
     ∙ ap (λ (l : List Pair). pendingIn w ++ l) (ap (λ (l : List Pair). l ++ reverse qs) (sym (dynamic-reverse (a .dynamic) (b .dynamic))) ∙ sym (reverse-append qs ds)) in

@@ -12,7 +12,7 @@ use Rattle.model.specs.Room.{fitting, roomFor}
 use Rattle.model.specs.declared.Attrset.{Attrset}
 use Rattle.model.specs.declared.Refusal.{Refusal}
 use Rattle.image.specs.Shown.{Shows, storeOf, fieldsIn, pendingIn, pendingTo}
-use Rattle.image.proofs.Laying.{seen-as, shown-as}
+use Rattle.image.proofs.Laying.{seen, shown-as}
 use Rattle.disjoint.specs.Fields.{Inside}
 use Rattle.constrain.specs.Fields.{fieldPairs}
 use Rattle.constrain.specs.Next.{pairsIn, PairsRight}
@@ -66,11 +66,11 @@ module _ (w : List ℕ) (ps : Pairs) where
           let n : length (pairsIn (fieldsIn w) ps) ≡ 2 = rw e in
           let m : length (pendingIn w ++ ((c ⊑ d) ∷ [])) ≡ length (pendingIn w) + 1 = length-append (pendingIn w) ((c ⊑ d) ∷ []) in
           let goal : length (pendingIn w ++ ((c ⊑ d) ∷ [])) < storeOf w .capacities .pending = omega arith in
-          (shown-as s, subst (λ (t : Table). length (t .pending) < t .store .capacities .pending) (sym (seen-as s)) goal)
+          (shown-as s, subst (λ (t : Table). length (t .pending) < t .store .capacities .pending) (sym (seen s)) goal)
 
       pub put-two : (u : List ℕ) → Midway u (pendingTo v (pendingIn v ++ ((a ⊑ b) ∷ []))) → Put u
       put-two u su =
-          let k : Midway u (pendingTo w ((pendingIn w ++ ((c ⊑ d) ∷ [])) ++ ((a ⊑ b) ∷ []))) = subst (λ (t : Table). Midway u (tableOf (t .store) (t .pending ++ ((a ⊑ b) ∷ [])))) (seen-as s) su in
+          let k : Midway u (pendingTo w ((pendingIn w ++ ((c ⊑ d) ∷ [])) ++ ((a ⊑ b) ∷ []))) = subst (λ (t : Table). Midway u (tableOf (t .store) (t .pending ++ ((a ⊑ b) ∷ [])))) (seen s) su in
           let q : (pendingIn w ++ ((c ⊑ d) ∷ [])) ++ ((a ⊑ b) ∷ []) ≡ pendingIn w ++ ((c ⊑ d) ∷ (a ⊑ b) ∷ []) = append-assoc (pendingIn w) ((c ⊑ d) ∷ []) ((a ⊑ b) ∷ []) in
           let l : Midway u (pendingTo w (pendingIn w ++ ((c ⊑ d) ∷ (a ⊑ b) ∷ []))) = subst (λ (x : List Pair). Midway u (pendingTo w x)) q k in
           rw e l
@@ -107,10 +107,10 @@ module _ (w : List ℕ) (p : Pair) (ps : Pairs) (right : PairsRight (fieldsIn w)
     follow-needs =
         let f = fits (visit p (storeOf w)) (length (beforeLast w) + k) (room-found w (storeOf w) k found e room p) in
         let goal : length (beforeLast w) + length follows ≤ storeOf w .capacities .pending = omega (arith, many, f .pending) in
-        (shown-as s, (subst (λ (t : Table). PairsRight (t .store .fields) ps) (sym (seen-as s)) right, subst (λ (t : Table). length (t .pending) + length (pairsIn (t .store .fields) ps) ≤ t .store .capacities .pending) (sym (seen-as s)) goal))
+        (shown-as s, (subst (λ (t : Table). PairsRight (t .store .fields) ps) (sym (seen s)) right, subst (λ (t : Table). length (t .pending) + length (pairsIn (t .store .fields) ps) ≤ t .store .capacities .pending) (sym (seen s)) goal))
 
     pub follow-went : (u : List ℕ) → Shows u (pendingTo v (pendingIn v ++ reverse (pairsIn (fieldsIn v) ps))) → Takes w (goes (visit p (storeOf w)) follows) Went u
     unfolding visit withVisited
     follow-went u su =
-        let k : Shows u (tableOf (visit p (storeOf w)) (beforeLast w ++ reverse follows)) = subst (λ (t : Table). Shows u (tableOf (t .store) (t .pending ++ reverse (pairsIn (t .store .fields) ps)))) (seen-as s) su in
+        let k : Shows u (tableOf (visit p (storeOf w)) (beforeLast w ++ reverse follows)) = subst (λ (t : Table). Shows u (tableOf (t .store) (t .pending ++ reverse (pairsIn (t .store .fields) ps)))) (seen s) su in
         went w (visit p (storeOf w)) u follows (follow-room ∙ ap roomIn e) k

@@ -15,7 +15,7 @@ use Rattle.model.specs.declared.Failure.{Failure}
 use Rattle.model.specs.declared.Refusal.{Refusal}
 use Rattle.laws.proofs.Effects.{add-bounds}
 use Rattle.image.specs.Shown.{Shows, Shown, storeOf, graphIn, entriesOf, boundsAll, visitedIn, pendingIn, entriesTo, boundsTo, pendingTo}
-use Rattle.image.proofs.Laying.{seen, seen-as, shown, shown-as}
+use Rattle.image.proofs.Laying.{seen, shown, shown-as}
 use Rattle.step.specs.Taken.{beforeLast, Midway, roomIn, RoomFor}
 use Rattle.step.specs.declared.Step.the-variants.{Went, Refused}
 use Rattle.step.specs.declared.StepRoom.{StepRoom}
@@ -83,7 +83,7 @@ module _ (w : List ℕ) (after : Store) (v other more : ℕ) (found : StepRoom) 
     pairs-need p u s =
         let k : length (beforeLast w) + more ≤ after .capacities .pending = fits (visit p after) (length (beforeLast w) + more) (room-found w after more found e (j .room) p) .pending in (
           shown-as s,
-          subst (λ (t : Table). length (t .pending) + length (boundsIn (t .store .bounds) v other) ≤ t .store .capacities .pending) (sym (seen-as s)) (omega (arith, j .counted)),
+          subst (λ (t : Table). length (t .pending) + length (boundsIn (t .store .bounds) v other) ≤ t .store .capacities .pending) (sym (seen s)) (omega (arith, j .counted)),
         )
 
   room-is : (p : Pair) (f : ℕ → Pair) → roomFor (length (beforeLast w)) (goes (visit p after) (map f (boundsIn (after .bounds) v other))) ≡ roomIn found
@@ -99,7 +99,7 @@ module _ (w : List ℕ) (after : Store) (v other more : ℕ) (found : StepRoom) 
   unfolding visit withVisited
   joined p f e u x su sx =
       let a : Shows x (tableOf (visit p after) (beforeLast w ++ reverse (map f (boundsIn (after .bounds) v other)))) =
-      subst (λ (t : Table). Shows x (tableOf (t .store) (t .pending ++ reverse (map f (boundsIn (t .store .bounds) v other))))) (seen-as su) sx in
+      subst (λ (t : Table). Shows x (tableOf (t .store) (t .pending ++ reverse (map f (boundsIn (t .store .bounds) v other))))) (seen su) sx in
       went w (visit p after) x (map f (boundsIn (after .bounds) v other)) (room-is p f ∙ ap roomIn e) a
 
 -- the rule

@@ -8,7 +8,7 @@ use mathlib.Core.List.{List, [], _∷_, _++_, append-assoc, append-nil}
 use lib.ListN.{length, getD, set, replicate, length-append, length-replicate, length-set}
 use lib.Seq.{sets, sets-eq, set-append-left, drop-at, take-append-seam, drop-append-add}
 use Rattle.model.specs.Lists.{flat}
-use Rattle.model.specs.Parts.{Part, stored, pushed}
+use Rattle.model.specs.Parts.{stored, pushed}
 use Rattle.model.specs.Image.{blanks, region, packed}
 use Rattle.laws.proofs.Regions.{Coded, flat-length}
 use Rattle.writes.proofs.Placing.{set-right}

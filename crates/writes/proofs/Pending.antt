@@ -11,7 +11,7 @@ use Rattle.model.specs.Table.{Pair, Break, Store, Table, tableOf, stateOf, with
 use Rattle.model.specs.Parts.{image}
 use Rattle.model.specs.Image.{frontAs, partsOf, wordsAs, table, word, imageLength}
 use Rattle.image.specs.Shown.{Shows, Shown, ShowsAs, ShownAs, storeOf, pendingIn, pendingTo, brokenTo, levelTo}
-use Rattle.image.proofs.Laying.{seen-as, shown-size}
+use Rattle.image.proofs.Laying.{seen, shown-size}
 use Rattle.writes.proofs.Places.{facts}
 
 pub state-asked : (l : List Pair) → 0 < length l → stateOf l ≡ asked
@@ -43,7 +43,7 @@ module _ {state : ℕ} {w : List ℕ} {t : Table} (s : ShowsAs state w t) where
 
 -- a question opened or ended: the table shown is the one that stood there
 pub stated : {state : ℕ} {v w : List ℕ} {t : Table} → ShowsAs state v t → Shows w (table v) → Shows w t
-stated {w = w} a s = subst (λ (u : Table). Shows w u) (seen-as a) s
+stated {w = w} a s = subst (λ (u : Table). Shows w u) (seen a) s
 
 module _ (w : List ℕ) (s : Shown w) where
   pub shows-broken : (b : Break) → Shows (set (set (set (set w 2 (b .kind)) 3 (b .sub)) 4 (b .sup)) 5 (b .name)) (brokenTo w b)
@@ -89,11 +89,11 @@ emptying-start s = record { shows = s }
 
 module _ {w₀ w : List ℕ} (e : Emptying w₀ w) where
   store : storeOf w ≡ storeOf w₀
-  store = ap (λ (t : Table). t .store) (seen-as (e .shows))
+  store = ap (λ (t : Table). t .store) (seen (e .shows))
 
   module _ {v : List ℕ} (s : ShowsAs asked v (pendingTo w (take (length (pendingIn w) - 1) (pendingIn w)))) where
     left : pendingIn v ≡ take (length (pendingIn w) - 1) (pendingIn w)
-    left = ap (λ (t : Table). t .pending) (seen-as s)
+    left = ap (λ (t : Table). t .pending) (seen s)
 
     pub emptying-more : Emptying w₀ v
     emptying-more = record { shows = subst (λ (ps : List Pair). ShowsAs asked v (pendingTo w₀ ps)) (sym left) (subst (λ (x : Store). ShowsAs asked v (tableOf x (take (length (pendingIn w) - 1) (pendingIn w)))) store s) }

@@ -1,17 +1,15 @@
 -- What words that show a table say of their header; where each region lies by itself; and the entries, which start right behind the
 -- header. Assumes nothing.
-use Prim.Native.Nat.{ℕ, suc, _+_, _*_, _≤_, _<_}
-use native.Mathlib.Omega.{arith}
-use mathlib.Core.Path.{_≡_, refl, sym, ap, subst}
+use Prim.Native.Nat.{ℕ, _+_, _*_, _≤_, _<_}
+use mathlib.Core.Path.{_≡_, refl, sym, subst}
 use mathlib.Core.List.{List, [], _∷_}
 use lib.ListN.{length, set}
-use Rattle.model.specs.Format.{headerWords, entryWidth, fieldWidth, boundWidth, visitedWidth, pendingWidth, equalsWidth}
 use Rattle.model.specs.Format.{entriesRegion, fieldsRegion, boundsRegion, visitedRegion, pendingRegion, equalsRegion}
 use Rattle.model.specs.Making.{changed}
 use Rattle.model.specs.Table.{Entry, Table, noEntry, entryAt}
-use Rattle.model.specs.Image.{entryWords, table, offset, capacity, count}
+use Rattle.model.specs.Image.{entryWords, table, capacity, count}
 use Rattle.laws.proofs.Regions.{entry-coded}
-use Rattle.image.specs.Laid.{Laid, At}
+use Rattle.image.specs.Laid.{Laid}
 use Rattle.image.specs.Shown.{ShowsAs, Shows, Shown, storeOf, entriesOf, fieldsIn, boundsAll, visitedIn, pendingIn, equalsIn, entriesTo}
 use Rattle.image.proofs.Laying.{shown-laid}
 use Rattle.image.proofs.Reading.{entries-count, fields-count, bounds-count, visited-count, pending-count, equals-count}

@@ -1,14 +1,14 @@
 -- Stores into an image, said of its parts, whatever its regions: words of one region, and its count. Assumes nothing.
 use Prim.Native.Nat.{ℕ, zero, suc, _+_, _-_, _*_, _≤_, _<_}
 use native.Mathlib.Omega.{arith}
-use native.Mathlib.Nat.{zero-add, suc-add, mul-le-mul-left, mul-suc}
-use mathlib.Core.Path.{_≡_, refl, sym, ap, _∙_, subst}
-use mathlib.Core.List.{List, [], _∷_, _++_, append-assoc, append-nil}
-use lib.ListN.{length, getD, set, take, drop, replicate, length-append, length-set, length-replicate}
+use native.Mathlib.Nat.{zero-add, suc-add}
+use mathlib.Core.Path.{_≡_, refl, sym, ap, _∙_}
+use mathlib.Core.List.{List, [], _∷_, _++_, append-assoc}
+use lib.ListN.{length, getD, set, take, drop, length-append, length-set}
 use lib.Seq.{sets, length-sets, set-append-left, split-at, set-split, set-set, length-take-le, getD-append-add, getD-set-same}
 use lib.Dec.{T}
 use Rattle.model.specs.Format.{Region, noRegion, headerOf, countAt}
-use Rattle.model.specs.Parts.{word, offset, capacity, count, Part, noPart, past, triples, bodies, image, regionsRight, Fits, Fit, done, _then_, stored, pushed, partOf, change}
+use Rattle.model.specs.Parts.{word, offset, capacity, count, Part, noPart, past, triples, bodies, image, regionsRight, InRegion, InRegions, done, _then_, stored, pushed, partOf, change}
 use Rattle.laws.proofs.Parts.{triples-length, fit-length, fit-at, image-right, Flat, flat-at, size}
 use Rattle.image.specs.Laid.{At}
 use Rattle.image.proofs.Reach.{before-end}
@@ -17,7 +17,7 @@ use Rattle.image.specs.Stores.{appended}
 -- words that show parts of these regions, in a row
 pub record ShowsParts (rs : List Region) (w front : List ℕ) (ps : List Part) : Type 0 where
   pub nine : length front ≡ 9
-  pub fit : Fit rs ps
+  pub fit : InRegions rs ps
   pub is : w ≡ image front ps
 
 -- stores behind a list, and among the words of one that others follow
@@ -46,12 +46,12 @@ unfolding bodies
 bodies-append [] qs = refl
 bodies-append (p ∷ ps) qs = rw (bodies-append ps qs) (sym (append-assoc (p .words) (bodies ps) (bodies qs)))
 
-bodies-length : {rs : List Region} {ps : List Part} → Fit rs ps → length (bodies ps) ≡ size ps
+bodies-length : {rs : List Region} {ps : List Part} → InRegions rs ps → length (bodies ps) ≡ size ps
 unfolding bodies size
 bodies-length done = refl
 bodies-length (_then_ {p = p} {ps = ps} x f) = length-append (p .words) (bodies ps) ∙ rw (x .full, bodies-length f)
 
-pub fit-take : {rs : List Region} {ps : List Part} (n : ℕ) → Fit rs ps → Fit (take n rs) (take n ps)
+pub fit-take : {rs : List Region} {ps : List Part} (n : ℕ) → InRegions rs ps → InRegions (take n rs) (take n ps)
 fit-take zero f = done
 fit-take (suc n) done = done
 fit-take (suc n) (x then f) = x then fit-take n f
@@ -78,7 +78,7 @@ module _ (front : List ℕ) (nine : length front ≡ 9) (xs ys : List Part) wher
   unfolding lead
   open-words p = opened p ∙ sym (append-assoc (front ++ triples at xs) (start ∷ p .capacity ∷ p .count ∷ (triples (past start p) ys ++ bodies xs)) (p .words ++ bodies ys))
 
-  lead-length : {rs : List Region} → Fit rs xs → (p : Part) → length (lead p) ≡ start
+  lead-length : {rs : List Region} → InRegions rs xs → (p : Part) → length (lead p) ≡ start
   unfolding lead start at
   lead-length f p =
       let b = bodies-length f in
@@ -96,7 +96,7 @@ module _ (front : List ℕ) (nine : length front ≡ 9) (xs ys : List Part) wher
         let q : Part = record { width = p .width; capacity = p .capacity; count = n; words = p .words } in
         rw (opened p, opened q, ← head) (set-right (front ++ triples at xs) (start ∷ p .capacity ∷ p .count ∷ ((triples (past start p) ys ++ bodies xs) ++ (p .words ++ bodies ys))) 2 n)
 
-    put-words : {rs : List Region} → Fit rs xs → (i : ℕ) (v : List ℕ) → i + length v ≤ length (p .words)
+    put-words : {rs : List Region} → InRegions rs xs → (i : ℕ) (v : List ℕ) → i + length v ≤ length (p .words)
         → sets (image front (xs ++ (p ∷ ys))) (start + i) v ≡ image front (xs ++ (record { width = p .width; capacity = p .capacity; count = p .count; words = sets (p .words) i v } ∷ ys))
     unfolding lead
     put-words f i v h =
@@ -108,7 +108,7 @@ module _ (front : List ℕ) (nine : length front ≡ 9) (xs ys : List Part) wher
         ∙ sym (open-words q)
 
 -- Region k of an image: its three words in the header, stores of words inside it, and a record put behind its last.
-module _ {rs : List Region} {ps : List Part} (front : List ℕ) (nine : length front ≡ 9) (fit : Fit rs ps) (k : ℕ) (low : 1 ≤ k) (high : k ≤ length rs) where
+module _ {rs : List Region} {ps : List Part} (front : List ℕ) (nine : length front ≡ 9) (fit : InRegions rs ps) (k : ℕ) (low : 1 ≤ k) (high : k ≤ length rs) where
   inside : k - 1 < length ps
   inside = let n = fit-length fit in omega arith
 
@@ -137,7 +137,7 @@ module _ {rs : List Region} {ps : List Part} (front : List ℕ) (nine : length f
   count-is = let e : 8 + 3 * k ≡ 9 + 3 * length (take (k - 1) ps) + 2 = let c = cut in omega arith in
       rw (parted, e) (word-of front nine (take (k - 1) ps) (drop (suc (k - 1)) ps) (partOf ps k) 2)
 
-  pub shaped : Fits (getD rs (k - 1) noRegion) (partOf ps k)
+  pub shaped : InRegion (getD rs (k - 1) noRegion) (partOf ps k)
   shaped = fit-at fit (k - 1) (omega arith)
 
   -- words stored in region k from its word i on
@@ -157,7 +157,7 @@ module _ {rs : List Region} {ps : List Part} (front : List ℕ) (nine : length f
       rw (parted, e) (put-count front nine (take (k - 1) ps) (drop (suc (k - 1)) ps) p n ∙ changed (record { width = p .width; capacity = p .capacity; count = n; words = p .words }))
 
 -- a part changed in its place
-pub fit-change : {rs : List Region} {ps : List Part} (j : ℕ) (q : Part) → Fit rs ps → Fits (getD rs j noRegion) q → Fit rs (set ps j q)
+pub fit-change : {rs : List Region} {ps : List Part} (j : ℕ) (q : Part) → InRegions rs ps → InRegion (getD rs j noRegion) q → InRegions rs (set ps j q)
 fit-change j q done h = done
 fit-change zero q (x then f) h = h then f
 fit-change (suc j) q (x then f) h = x then fit-change j q f h
@@ -166,7 +166,7 @@ module _ {rs : List Region} {ps : List Part} {w front : List ℕ} (s : ShowsPart
   in-range : k - 1 < length ps
   in-range = let n = fit-length (s .fit) in omega arith
 
-  shape-of : Fits (getD rs (k - 1) noRegion) (partOf ps k)
+  shape-of : InRegion (getD rs (k - 1) noRegion) (partOf ps k)
   shape-of = shaped front (s .nine) (s .fit) k low high
 
   pub shows-at : At w k (partOf ps k .width)
@@ -204,7 +204,7 @@ module _ {rs : List Region} {ps : List Part} {w front : List ℕ} (s : ShowsPart
       let c : capacity w k ≡ p .capacity = rw (s .is) (capacity-is front nine fit k low high) in
       let full : length (sets (p .words) i r) ≡ p .width * p .capacity = length-sets (p .words) i r ∙ shape-of .full in
       let q : Part = stored i r (p .count) p in
-      let qf : Fits (getD rs (k - 1) noRegion) q = record { wide = shape-of .wide; small = shape-of .small; held = shape-of .held; full = full } in
+      let qf : InRegion (getD rs (k - 1) noRegion) q = record { wide = shape-of .wide; small = shape-of .small; held = shape-of .held; full = full } in
       let one : sets v (offset v k + i) r ≡ image front (set ps (k - 1) q) = image-put front nine fit k low high i r (rw (shape-of .full) h) in
       let two = image-count front nine (fit-change (k - 1) q fit qf) k low high n in
       let same : partOf (set ps (k - 1) q) k ≡ q = getD-set-same ps (k - 1) q noPart in-range in

@@ -5,10 +5,10 @@ use native.Mathlib.Omega.{arith}
 use mathlib.Core.Path.{_≡_, refl, sym, ap, _∙_, subst}
 use mathlib.Core.List.{List, [], _∷_, _++_}
 use lib.ListN.{length, getD, set, take, replicate, length-append, length-replicate, length-set}
-use lib.Seq.{sets, length-take-le, take-length, take-suc}
-use Rattle.model.specs.Format.{regions, newest, countAt, entryWidth, fieldWidth, boundWidth, visitedWidth, pendingWidth, equalsWidth}
+use lib.Seq.{length-take-le, take-length, take-suc}
+use Rattle.model.specs.Format.{regions, newest, entryWidth, fieldWidth, boundWidth, visitedWidth, pendingWidth, equalsWidth}
 use Rattle.model.specs.Format.{entriesRegion, fieldsRegion, boundsRegion, visitedRegion, pendingRegion, equalsRegion}
-use Rattle.model.specs.Table.{Entry, Field, Bound, Pair, Table, tableOf, withEntries, withFields, withBounds, withVisited, withEquals}
+use Rattle.model.specs.Table.{Table, tableOf, withEntries, withFields, withBounds, withVisited, withEquals}
 use Rattle.model.specs.Parts.{offset, capacity, count, Part, image, stored, pushed, partOf, change}
 use Rattle.model.specs.Image.{entryWords, fieldWords, boundWords, visitedWords, pendingWords, equalWords, packed, frontAs, partsOf, wordsAs}
 use Rattle.laws.proofs.Regions.{Coded}

@@ -3,11 +3,10 @@ use Prim.Native.Nat.{ℕ, _≤_, _+_, _*_, _-_}
 use native.Mathlib.Omega.{arith}
 use borrow.Author.Needs.{needs}
 use mathlib.Core.Path.{_≡_, refl, sym, ap, _∙_}
-use lib.ListN.{getD, length}
 use denote.Ref.{now}
 use Rattle.model.specs.Format.{regions, newest}
 use Rattle.model.specs.Parts.{regionsRight}
-use Rattle.formed.proofs.Lying.{testsFrom, widths, mosts, off-place, over-most, over-room, goes-on, at-end, little}
+use Rattle.formed.proofs.Lying.{testsFrom, off-place, over-most, over-room, goes-on, at-end, little}
 use Rattle.formed.proofs.regions_right.Statement.{statement}
 use Rattle.formed.proofs.regions_right.Tie as tie
 use Rattle.formed.proofs.regions_right.Reads as reads

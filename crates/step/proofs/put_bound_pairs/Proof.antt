@@ -1,7 +1,7 @@
 -- The loop goes down over the bound records.
 use native.Mathlib.Omega.{arith}
 use mathlib.Core.Path.{sym, _∙_}
-use Rattle.image.proofs.Laying.{as-laid}
+use Rattle.image.proofs.Laying.{shown-laid}
 use Rattle.step.proofs.BoundPairs.{Paired, paired-start, paired-shown, paired-inside, paired-room, paired-more, paired-skip, paired-end, same-length as as-long}
 use Rattle.step.proofs.put_bound_pairs.Statement.{statement}
 use Rattle.step.proofs.put_bound_pairs.Tie as tie
@@ -16,7 +16,7 @@ abbrev μ-loop : tie.MeasureT-loop
 
 bounds-count-requires : tie.Need-bounds-count-requires Inv-loop μ-loop
 bounds-count-requires c κs =
-    as-laid (c .before .before .pre .0)
+    shown-laid (c .before .before .pre .0)
 
 loop-holds : tie.Need-loop-holds Inv-loop μ-loop
 loop-holds c =
@@ -29,12 +29,12 @@ sub-i c =
 belongs-requires : tie.Need-belongs-requires Inv-loop μ-loop
 belongs-requires c κs =
     let p = c .before .before .loop .inv in
-    (as-laid (p .shows), paired-inside _ _ _ _ _ _ p (c .before .loop-test .taken))
+    (shown-laid (p .shows), paired-inside _ _ _ _ _ _ p (c .before .loop-test .taken))
 
 bound-word-requires : tie.Need-bound-word-requires Inv-loop μ-loop
 bound-word-requires c κs =
     let p = c .before .before .before .before .before .loop .inv in
-    (as-laid (p .shows), (paired-inside _ _ _ _ _ _ p (c .before .before .before .before .loop-test .taken), omega arith))
+    (shown-laid (p .shows), (paired-inside _ _ _ _ _ _ p (c .before .before .before .before .loop-test .taken), omega arith))
 
 put-bound-pair-requires : tie.Need-put-bound-pair-requires Inv-loop μ-loop
 put-bound-pair-requires c κs =

@@ -1,7 +1,7 @@
 -- The field asks for a pair, which is put, or for none.
 use native.Mathlib.Omega.{arith}
 use mathlib.Core.Path.{sym, _∙_}
-use Rattle.image.proofs.Laying.{as-laid}
+use Rattle.image.proofs.Laying.{shown-laid}
 use Rattle.step.proofs.FieldPairs.{pending-none, pending-one, pending-room, field-under, field-asked, field-free}
 use borrow.Author.Needs.{needs}
 use Rattle.step.proofs.put_field_pair.Statement.{statement}
@@ -13,7 +13,7 @@ use Rattle.image.proofs.field_word.Reads as field-word-reads
 use Rattle.writes.proofs.put_consequence.Reads as put-consequence-reads
 
 asks-requires : tie.Need-asks-requires
-asks-requires c κs = let p = c .before .before .pre in (as-laid (p .0), (p .1 .0, p .1 .1 .0))
+asks-requires c κs = let p = c .before .before .pre in (shown-laid (p .0), (p .1 .0, p .1 .1 .0))
 
 enum-known-ask : tie.Need-enum-known-ask
 enum-known-ask c = search needs
@@ -21,7 +21,7 @@ enum-known-ask c = search needs
 field-word-requires : tie.Need-field-word-requires
 field-word-requires c κs =
     let p = c .before .before .before .before .before .before .before .pre in
-    (as-laid (p .0), (p .1 .1 .0, omega arith))
+    (shown-laid (p .0), (p .1 .1 .0, omega arith))
 
 put-consequence-requires : tie.Need-put-consequence-requires
 put-consequence-requires c κs =

@@ -1,7 +1,7 @@
 -- The loop's invariant is `Putting`: behind the pair of the dynamic types, the pairs of the fields from j on, last first.
 use native.Mathlib.Omega.{arith}
 use denote.Ref.{now}
-use Rattle.image.proofs.Laying.{as-laid}
+use Rattle.image.proofs.Laying.{shown-laid}
 use Rattle.disjoint.proofs.Fields.{fields-few}
 use Rattle.step.proofs.FieldPairs.{pending-size, dynamic-room, ready, Putting, putting-start, putting-shown, putting-inside, putting-there, putting-room, putting-more, putting-end}
 use Rattle.step.proofs.put_field_pairs.Statement.{statement}
@@ -25,7 +25,7 @@ put-dynamic-pair-requires c κs =
 add-j : tie.Need-add-j Inv-loop μ-loop
 add-j c =
     let s = c .before .before .before .before .before .before in
-    omega (arith, s .pre .1 .1 .0, fields-few (now (s .args .image)) (as-laid (s .pre .0)))
+    omega (arith, s .pre .1 .1 .0, fields-few (now (s .args .image)) (shown-laid (s .pre .0)))
 
 loop-holds : tie.Need-loop-holds Inv-loop μ-loop
 loop-holds c =

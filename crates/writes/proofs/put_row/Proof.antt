@@ -1,11 +1,11 @@
 -- `put_row`: a record's words, one after the other.
 use Prim.Native.Nat.{ℕ, _≤_, _+_, _-_}
 use mathlib.Core.List.{List}
-use mathlib.Core.Path.{_≡_, refl, sym, ap, _∙_}
+use mathlib.Core.Path.{_≡_, ap, _∙_}
 use native.Mathlib.Omega.{arith}
 use borrow.Author.Needs.{needs}
 use lib.ListN.{length, take, length-set}
-use lib.Seq.{sets, length-sets, take-all}
+use lib.Seq.{sets, take-all}
 use Rattle.writes.proofs.Runs.{sets-next}
 use Rattle.writes.proofs.put_row.Statement.{statement}
 use Rattle.writes.proofs.put_row.Tie as tie
