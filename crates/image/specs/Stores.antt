@@ -1,6 +1,6 @@
 -- What the stores of a push or a pop need, and leave, in words, one definition for every region; and those of a start. Assumes nothing.
 use Prim.Native.Nat.{ℕ, suc, _+_, _-_, _*_}
-use mathlib.Core.List.{List, _∷_}
+use mathlib.Core.List.{List, [], _∷_}
 use lib.ListN.{set, replicate}
 use lib.Seq.{sets}
 use Rattle.model.specs.Format.{Region, regions, newest, headerWords, formatWord, formatAt, namesAt, functorAt, offsetAt, countAt}

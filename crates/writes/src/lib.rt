@@ -1,7 +1,7 @@
 // What changes an image: records put behind the last of a region and taken off, words of an entry, the break, the level, and the doors
 // through which a question is opened and ended. Each says which table the words show then.
 ghost use mathlib.Core.Path.{_≡_};
-ghost use mathlib.Core.List.{_∷_, _++_};
+ghost use mathlib.Core.List.{[], _∷_, _++_};
 ghost use Prim.Native.Nat.{_+_, _-_, _*_, _≤_, _<_};
 ghost use lib.ListN.{length, set, take, replicate};
 ghost use lib.Seq.{sets};
