@@ -7,7 +7,7 @@ use mathlib.Core.List.{List}
 use lib.ListN.{length, getD, drop, length-drop}
 use lib.Seq.{getD-take, getD-drop, drop-drop}
 use Rattle.model.specs.Lists.{readMany}
-use Rattle.model.specs.Format.{entryWidth, fieldWidth, boundWidth, visitedWidth, pendingWidth, equalsWidth, entriesRegion, fieldsRegion, boundsRegion, visitedRegion, pendingRegion, equalsRegion}
+use Rattle.model.specs.Format.{headerWords, entryWidth, fieldWidth, boundWidth, visitedWidth, pendingWidth, equalsWidth, entriesRegion, fieldsRegion, boundsRegion, visitedRegion, pendingRegion, equalsRegion}
 use Rattle.model.specs.Table.{entryAt}
 use Rattle.model.specs.Image.{word, offset, capacity, count, recordsOf, table, entryWords, entryOf, fieldOf, boundOf, visitedOf, pendingOf, equalOf}
 use Rattle.laws.proofs.Regions.{Coded, entry-coded}
@@ -88,8 +88,8 @@ module _ (w : List ℕ) (l : Laid w) where
   equals-at = record { head = omega arith; behind = omega arith; held = l .equals .held; inside = omega arith }
 
   -- an entry's word, behind the header
-  pub entry-word : (i j : ℕ) → i < length (entriesOf w) → j < 7 → word (entryWords (entryAt (entriesOf w) i)) j ≡ word w (27 + 7 * i + j)
+  pub entry-word : (i j : ℕ) → i < length (entriesOf w) → j < entryWidth → word (entryWords (entryAt (entriesOf w) i)) j ≡ word w (headerWords + entryWidth * i + j)
   unfolding table
   entry-word i j h jt =
       let n = entries-count w in
-      record-word entry-coded entries-at i j _ (omega arith) jt ∙ ap (λ (m : ℕ). word w (m + 7 * i + j)) (l .entries .starts)
+      record-word entry-coded entries-at i j _ (omega arith) jt ∙ ap (λ (m : ℕ). word w (m + entryWidth * i + j)) (l .entries .starts)

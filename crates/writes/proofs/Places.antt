@@ -4,7 +4,7 @@ use Prim.Native.Nat.{ℕ, _+_, _*_, _≤_, _<_}
 use mathlib.Core.Path.{_≡_, refl, sym, subst}
 use mathlib.Core.List.{List, [], _∷_}
 use lib.ListN.{length, set}
-use Rattle.model.specs.Format.{entriesRegion, fieldsRegion, boundsRegion, visitedRegion, pendingRegion, equalsRegion}
+use Rattle.model.specs.Format.{headerWords, entryWidth, entriesRegion, fieldsRegion, boundsRegion, visitedRegion, pendingRegion, equalsRegion}
 use Rattle.model.specs.Making.{changed}
 use Rattle.model.specs.Table.{Entry, Table, noEntry, entryAt}
 use Rattle.model.specs.Image.{entryWords, table, capacity, count}
@@ -57,10 +57,10 @@ pub become : {state : ℕ} {v w : List ℕ} {t : Table} → v ≡ w → ShowsAs 
 become {state} {v} {w} {t} e s = subst (λ (u : List ℕ). ShowsAs state u t) (sym e) s
 
 -- an entry's word, behind the header
-pub entry-put : (w : List ℕ) → Shown w → (g : Entry → Entry) (i j v : ℕ) → i < length (entriesOf w) → j < 7 → entryWords (g (entryAt (entriesOf w) i)) ≡ set (entryWords (entryAt (entriesOf w) i)) j v
-    → Shows (set w (27 + 7 * i + j) v) (entriesTo w (changed g (entriesOf w) i))
+pub entry-put : (w : List ℕ) → Shown w → (g : Entry → Entry) (i j v : ℕ) → i < length (entriesOf w) → j < entryWidth → entryWords (g (entryAt (entriesOf w) i)) ≡ set (entryWords (entryAt (entriesOf w) i)) j v
+    → Shows (set w (headerWords + entryWidth * i + j) v) (entriesTo w (changed g (entriesOf w) i))
 unfolding changed
 entry-put w s g i j v h k e =
     let es = entriesOf w in
     let b = g (entryAt es i) in
-    subst (λ (n : ℕ). Shows (set w (n + 7 * i + j) v) (entriesTo w (set es i b))) (shown-laid s .entries .starts) (slot-put entry-coded entries-slot s i j v b noEntry h k e)
+    subst (λ (n : ℕ). Shows (set w (n + entryWidth * i + j) v) (entriesTo w (set es i b))) (shown-laid s .entries .starts) (slot-put entry-coded entries-slot s i j v b noEntry h k e)

@@ -5,7 +5,7 @@ ghost use mathlib.Core.List.{[], _∷_, _++_};
 ghost use Prim.Native.Nat.{_+_, _-_, _*_, _≤_, _<_};
 ghost use lib.ListN.{length, set, take, replicate};
 ghost use lib.Seq.{sets};
-ghost use Rattle.model.specs.Format.{idle, asked, entryWidth};
+ghost use Rattle.model.specs.Format.{idle, asked, entryWidth, headerWords};
 ghost use Rattle.model.specs.Table.{_⊑_};
 ghost use Rattle.model.specs.Image.{capacity, count, table};
 ghost use Rattle.model.specs.Making.{changed, withNegation, withMark};
@@ -79,7 +79,7 @@ fn put_entry_word(image: &mut [u32], i: u32, j: usize, v: u32)
     requires { ⌜ Laid (now image) ⌝ }
     requires { ⌜ i < length (entriesOf (now image)) ⌝ }
     requires { ⌜ j < entryWidth ⌝ }
-    ensures { λ _. ⌜ now (image .exit) ≡ set (now (image .entry)) (27 + 7 * i + j) v ⌝ }
+    ensures { λ _. ⌜ now (image .exit) ≡ set (now (image .entry)) (headerWords + entryWidth * i + j) v ⌝ }
 {
     image[image::HEADER_WORDS + image::ENTRY_WIDTH * image::wide(i) + j] = v;
 }

@@ -4,7 +4,7 @@ use native.Mathlib.Omega.{arith}
 use borrow.Author.Needs.{needs}
 use mathlib.Core.Path.{_≡_, refl, sym, ap, _∙_}
 use denote.Ref.{now}
-use Rattle.model.specs.Format.{regions, newest}
+use Rattle.model.specs.Format.{regions, newest, headerWords}
 use Rattle.model.specs.Parts.{regionsRight}
 use Rattle.formed.proofs.Lying.{testsFrom, off-place, over-most, over-room, goes-on, at-end, little}
 use Rattle.formed.proofs.regions_right.Statement.{statement}
@@ -14,7 +14,7 @@ use Rattle.formed.proofs.regions_right.Lts as lts
 use Rattle.formed.proofs.wide.Reads as wide-reads
 
 abbrev Inv-loop : tie.InvT-loop
-Inv-loop image at₀ k₀ at k = (k ≤ 6) × (at ≤ 27 + 30064771072 * k) × (testsFrom image k at ≡ regionsRight (regions newest) 1 27 image)
+Inv-loop image at₀ k₀ at k = (k ≤ 6) × (at ≤ headerWords + 30064771072 * k) × (testsFrom image k at ≡ regionsRight (regions newest) 1 headerWords image)
 
 abbrev μ-loop : tie.MeasureT-loop
 μ-loop image at₀ k₀ at k = 6 - k

@@ -2,6 +2,7 @@
 use Rattle.writes.proofs.Places.{become, entry-put}
 use Rattle.image.proofs.Laying.{shown-laid}
 use Rattle.image.specs.Shown.{entriesOf}
+use Rattle.model.specs.Format.{headerWords, entryWidth}
 use Rattle.model.specs.Making.{withMark}
 use Rattle.model.specs.Table.{entryAt}
 use denote.Ref.{now}
@@ -42,7 +43,7 @@ returns c =
     let a = s .args in
     let w = now (a .image) in
     let f = entryAt (entriesOf w) (a .i) .flags in
-    become (c .before .before .put-entry-word .ensures ∙ ap (λ (n : ℕ). set w (27 + 7 * a .i + 4) (n - n % 2 + 1)) (c .before .before .before .before .entry-word .ensures))
+    become (c .before .before .put-entry-word .ensures ∙ ap (λ (n : ℕ). set w (headerWords + entryWidth * a .i + 4) (n - n % 2 + 1)) (c .before .before .before .before .entry-word .ensures))
     (entry-put w (s .pre .0) withMark (a .i) 4 (f - f % 2 + 1) (s .pre .1) (omega arith) refl)
 
 pub put-mark-spec : {M : Type 1} → statement M
