@@ -5,7 +5,7 @@ use Rattle.step.proofs.advance.Statement.{statement}
 use Rattle.step.proofs.advance.Tie as tie
 
 push-visited-requires : tie.Need-push-visited-requires
-push-visited-requires c κs = search needs
+push-visited-requires c κs = let p = c .before .before .pre in (p .0, p .1 .0)
 
 pop-pending-requires : tie.Need-pop-pending-requires
 pop-pending-requires c κs =

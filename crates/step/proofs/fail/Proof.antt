@@ -8,7 +8,7 @@ use Rattle.step.proofs.fail.Statement.{statement}
 use Rattle.step.proofs.fail.Tie as tie
 
 room-for-requires : tie.Need-room-for-requires
-room-for-requires c κs = search needs
+room-for-requires c κs = c .before .before .pre
 
 enum-known-room : tie.Need-enum-known-room
 enum-known-room c = search needs

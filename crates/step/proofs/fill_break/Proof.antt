@@ -22,13 +22,13 @@ enum-known-failure : tie.Need-enum-known-failure
 enum-known-failure c = search needs
 
 put-break-requires : tie.Need-put-break-requires
-put-break-requires c κs = search needs
+put-break-requires c κs = c .before .before .before .before .before .before .before .before .pre
 
 enum-known-failure-2 : tie.Need-enum-known-failure-2
 enum-known-failure-2 c = search needs
 
 put-break-requires-2 : tie.Need-put-break-requires-2
-put-break-requires-2 c κs = search needs
+put-break-requires-2 c κs = c .before .before .before .before .before .before .before .before .pre
 
 same-length-2 : tie.Need-same-length-2
 same-length-2 c = search needs

@@ -18,7 +18,7 @@ count-of-requires : tie.Need-count-of-requires
 count-of-requires c κs = search needs
 
 room-for-requires : tie.Need-room-for-requires
-room-for-requires c κs = search needs
+room-for-requires c κs = let p = c .before .before .before .pre in (p .0, p .1 .0)
 
 enum-known-room : tie.Need-enum-known-room
 enum-known-room c = search needs

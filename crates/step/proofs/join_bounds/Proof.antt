@@ -25,7 +25,7 @@ count-bounds-requires c κs =
     (formed-laid _ (c .before .before .before .before .before .before .pre .0), c .before .before .before .bounds-count .ensures)
 
 room-for-bound-requires : tie.Need-room-for-bound-requires
-room-for-bound-requires c κs = search needs
+room-for-bound-requires c κs = let p = c .before .before .before .before .before .before .before .before .pre in (p .0, p .1 .0)
 
 enum-known-room : tie.Need-enum-known-room
 enum-known-room c = search needs

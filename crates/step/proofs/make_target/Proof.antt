@@ -6,7 +6,7 @@ use Rattle.step.proofs.make_target.Statement.{statement}
 use Rattle.step.proofs.make_target.Tie as tie
 
 negate-requires : tie.Need-negate-requires
-negate-requires c κs = search needs
+negate-requires c κs = c .before .before .pre .0
 
 enum-known-n : tie.Need-enum-known-n
 enum-known-n c = search needs

@@ -31,7 +31,7 @@ says-mark-requires : tie.Need-says-mark-requires
 says-mark-requires c κs = search needs
 
 put-mark-requires : tie.Need-put-mark-requires
-put-mark-requires c κs = search needs
+put-mark-requires c κs = let p = c .before .before .before .before .before .before .before .before .before .before .pre in (p .0, p .1 .1)
 
 same-length-2 : tie.Need-same-length-2
 same-length-2 c = search needs

@@ -6,10 +6,10 @@ use Rattle.step.proofs.put_bound_pair.Statement.{statement}
 use Rattle.step.proofs.put_bound_pair.Tie as tie
 
 put-consequence-requires : tie.Need-put-consequence-requires
-put-consequence-requires c κs = search needs
+put-consequence-requires c κs = c .before .before .before .pre
 
 put-consequence-requires-2 : tie.Need-put-consequence-requires-2
-put-consequence-requires-2 c κs = search needs
+put-consequence-requires-2 c κs = c .before .before .before .pre
 
 same-length : tie.Need-same-length
 same-length c = search needs

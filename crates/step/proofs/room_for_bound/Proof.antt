@@ -2,12 +2,11 @@
 use native.Mathlib.Omega.{arith}
 use Rattle.image.proofs.Laying.{formed-laid}
 use Rattle.step.proofs.Rooms.{bound-repeats, lacks-bounds, bound-more}
-use borrow.Author.Needs.{needs}
 use Rattle.step.proofs.room_for_bound.Statement.{statement}
 use Rattle.step.proofs.room_for_bound.Tie as tie
 
 room-for-requires : tie.Need-room-for-requires
-room-for-requires c κs = search needs
+room-for-requires c κs = c .before .before .pre
 
 returns : tie.Need-returns
 returns c =
@@ -28,7 +27,7 @@ returns-2 c =
     lacks-bounds _ (s .pre .0) (s .args .repeated) (s .args .more) (c .before .before .before .if1 .left) (omega (arith, c .before .bounds-count .ensures, c .before .before .bounds-capacity .ensures, c .if2 .taken))
 
 room-for-requires-2 : tie.Need-room-for-requires-2
-room-for-requires-2 c κs = search needs
+room-for-requires-2 c κs = c .before .before .before .before .before .pre
 
 returns-3 : tie.Need-returns-3
 returns-3 c =

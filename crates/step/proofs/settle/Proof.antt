@@ -1,4 +1,5 @@
 -- Each place hands what it knows to the laws of Settling.
+use native.Mathlib.Omega.{arith}
 use Rattle.image.proofs.Laying.{shown-laid, shown-as}
 use Rattle.writes.proofs.Pending.{stated}
 use Rattle.step.proofs.Settling.{settle-full, settle-deep, settle-push, settle-went}
@@ -15,7 +16,7 @@ visited-count-requires c κs =
     shown-laid (c .before .before .before .before .pre .0)
 
 undo-requires : tie.Need-undo-requires
-undo-requires c κs = search needs
+undo-requires c κs = let p = c .before .before .before .before .before .before .before .pre in (p .0, p .1 .1 .0)
 
 same-length : tie.Need-same-length
 same-length c = search needs
@@ -31,7 +32,7 @@ is-deep-requires c κs =
     (shown-laid (p .0), p .1 .1)
 
 undo-requires-2 : tie.Need-undo-requires-2
-undo-requires-2 c κs = search needs
+undo-requires-2 c κs = let p = c .before .before .before .before .before .before .before .before .before .before .pre in (p .0, p .1 .1 .0)
 
 same-length-2 : tie.Need-same-length-2
 same-length-2 c = search needs
@@ -42,7 +43,7 @@ returns-2 c =
     settle-deep _ _ _ _ (p .0) (p .1 .0) _ _ (c .before .before .before .before .before .before .before .before .visited-count .ensures) (c .before .before .before .before .before .before .before .before .before .before .visited-capacity .ensures) (c .before .before .before .before .before .before .before .if1 .left) _ (c .before .before .before .before .before .is-deep .ensures) (c .before .before .before .before .if2 .taken) _ (c .before .before .undo2 .ensures)
 
 advance-requires : tie.Need-advance-requires
-advance-requires c κs = search needs
+advance-requires c κs = let p = c .before .before .before .before .before .before .before .before .before .before .pre in (p .0, (omega arith, p .1 .0))
 
 put-consequence-requires : tie.Need-put-consequence-requires
 put-consequence-requires c κs =
