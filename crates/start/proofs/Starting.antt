@@ -4,8 +4,8 @@ use native.Mathlib.Omega.{arith}
 use native.Mathlib.Nat.{sub-zero, add-zero}
 use native.Mathlib.Numerals.{add-one}
 use mathlib.Core.Path.{_≡_, refl, sym, ap, _∙_}
-use mathlib.Core.List.{List, [], _++_, append-assoc, append-nil}
-use mathlib.Core.Bool.{true, false, _&&_, and-assoc, and-true}
+use mathlib.Core.List.{List, [], _∷_, _++_, append-assoc, append-nil}
+use mathlib.Core.Bool.{Bool, true, false, _&&_, and-assoc, and-true}
 use lib.ListN.{length, getD, set, drop, replicate, length-append, length-drop, length-replicate, replicate-append-replicate}
 use lib.Seq.{drop-cons, drop-length, set-at, append-snoc}
 use lib.Dec.{T, eqb, leb}
@@ -72,10 +72,13 @@ started names functor c n e =
     ∙ sym (empty-words names functor c)
 
 -- the tests of a start, and what they say
-pub tests-are : (names functor : ℕ) (c : Capacities) (w : List ℕ)
-    → (allSmall (regions newest) (inOrder c) && eqb (imageLength c) (length w) && leb names namesMost && leb functor names) ≡ capacitiesRight names functor c w
-unfolding capacitiesRight allOf
-tests-are names functor c w = simp (and-assoc, and-true)
+pub test-fails : (small : Bool) (bs : List Bool) → small ≡ false → false ≡ allOf (small ∷ bs)
+unfolding allOf
+test-fails small bs e = rw e
+
+pub tests-are : (small size many least : Bool) → small ≡ true → (size && many && least) ≡ allOf (small ∷ size ∷ many ∷ least ∷ [])
+unfolding allOf
+tests-are small size many least e = rw e (simp (and-assoc, and-true))
 
 pub right-size : (names functor : ℕ) (c : Capacities) (w : List ℕ) → T (capacitiesRight names functor c w) → length w ≡ imageLength c
 unfolding capacitiesRight

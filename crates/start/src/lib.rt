@@ -7,36 +7,41 @@ ghost use mathlib.Core.List.{[], _∷_};
 ghost use Prim.Native.Nat.{_+_, _-_, _*_, _≤_, _<_};
 ghost use lib.ListN.{length, set, replicate};
 ghost use lib.Seq.{sets};
-ghost use Rattle.model.specs.Format.{regions, newest, formatAt, formatWord, namesAt, functorAt};
-ghost use Rattle.model.specs.Image.{offset, capacity, inOrder, imageLength};
-ghost use Rattle.model.specs.Calls.{allSmall, capacitiesRight, start as startOf};
+ghost use lib.Dec.{T, eqb, leb};
+ghost use Rattle.model.specs.Lists.{allOf};
+ghost use Rattle.model.specs.Format.{regions, newest, headerWords, formatAt, formatWord, namesAt, functorAt, namesMost};
+ghost use Rattle.model.specs.Image.{sizeOf};
+ghost use Rattle.model.specs.Calls.{allSmall, start as startOf};
 ghost use Rattle.model.specs.Told.{toldReply};
-ghost use Rattle.laws.specs.Good.{Small};
-ghost use Rattle.image.specs.Stores.{capacitiesOf, headed};
+ghost use Rattle.image.specs.Stores.{capacitiesOf, headedFrom};
 
-// How many words an image with these capacities has.
-fn size_of(capacities: Capacities) -> usize
-    ensures { λ r. ⌜ r ≡ imageLength (capacitiesOf capacities) ⌝ }
+// Whether no capacity is over its maximum: the capacities are in the regions' order.
+fn all_small(sizes: &[u32]) -> bool
+    requires { ⌜ length (now sizes) ≡ length (regions newest) ⌝ }
+    ensures { λ r. ⌜ r ≡ allSmall (regions newest) (now (sizes .entry)) ⌝ }
 {
-    image::HEADER_WORDS
-        + image::ENTRY_WIDTH * image::wide(capacities.entries)
-        + image::FIELD_WIDTH * image::wide(capacities.fields)
-        + image::BOUND_WIDTH * image::wide(capacities.bounds)
-        + image::VISITED_WIDTH * image::wide(capacities.visited)
-        + image::PENDING_WIDTH * image::wide(capacities.pending)
-        + image::EQUALS_WIDTH * image::wide(capacities.equals)
+    let mut ok = true;
+    let mut k: usize = 0;
+    while k < image::REGIONS {
+        ok = ok & (sizes[k] <= image::MOSTS[k]);
+        k += 1;
+    }
+    ok
 }
 
-// Whether no capacity is over its maximum.
-fn capacities_small(c: Capacities) -> bool
-    ensures { λ r. ⌜ r ≡ allSmall (regions newest) (inOrder (capacitiesOf c)) ⌝ }
+// How many words an image with these capacities has.
+fn size_of(sizes: &[u32]) -> usize
+    requires { ⌜ length (now sizes) ≡ length (regions newest) ⌝ }
+    requires { ⌜ T (allSmall (regions newest) (now sizes)) ⌝ }
+    ensures { λ r. ⌜ r ≡ headerWords + sizeOf (regions newest) (now (sizes .entry)) ⌝ }
 {
-    (c.entries <= image::ENTRIES_MOST)
-        & (c.fields <= image::FIELDS_MOST)
-        & (c.bounds <= image::BOUNDS_MOST)
-        & (c.visited <= image::VISITED_MOST)
-        & (c.pending <= image::PENDING_MOST)
-        & (c.equals <= image::EQUALS_MOST)
+    let mut at: usize = image::HEADER_WORDS;
+    let mut k: usize = 0;
+    while k < image::REGIONS {
+        at = at + image::WIDTHS[k] * image::wide(sizes[k]);
+        k += 1;
+    }
+    at
 }
 
 // Zeroes every word.
@@ -52,7 +57,7 @@ fn clear(image: &mut [u32])
 
 // Writes the format, the name count and the functor word.
 fn put_front(image: &mut [u32], names: u32, functor: u32)
-    requires { ⌜ 27 ≤ length (now image) ⌝ }
+    requires { ⌜ headerWords ≤ length (now image) ⌝ }
     ensures { λ _. ⌜ now (image .exit) ≡ set (set (set (now (image .entry)) formatAt formatWord) namesAt names) functorAt functor ⌝ }
 {
     image[image::FORMAT_AT] = image::FORMAT;
@@ -71,33 +76,31 @@ fn put_region(image: &mut [u32], k: usize, offset: u32, capacity: u32)
 }
 
 // Writes the header of an empty image over zeroes.
-fn put_header(image: &mut [u32], names: u32, functor: u32, capacities: Capacities)
-    requires { ⌜ 27 ≤ length (now image) ⌝ }
-    requires { ⌜ Small (capacitiesOf capacities) ⌝ }
-    ensures { λ _. ⌜ now (image .exit) ≡ headed (now (image .entry)) names functor (capacitiesOf capacities) ⌝ }
+fn put_header(image: &mut [u32], names: u32, functor: u32, sizes: &[u32])
+    requires { ⌜ headerWords ≤ length (now image) ⌝ }
+    requires { ⌜ length (now sizes) ≡ length (regions newest) ⌝ }
+    requires { ⌜ T (allSmall (regions newest) (now sizes)) ⌝ }
+    ensures { λ _. ⌜ now (image .exit) ≡ headedFrom 1 headerWords (regions newest) (now (sizes .entry)) (set (set (set (now (image .entry)) formatAt formatWord) namesAt names) functorAt functor) ⌝ }
 {
-    let entries = image::HEADER_WORDS as u32;
-    let fields = entries + image::ENTRY_WIDTH as u32 * capacities.entries;
-    let bounds = fields + image::FIELD_WIDTH as u32 * capacities.fields;
-    let visited = bounds + image::BOUND_WIDTH as u32 * capacities.bounds;
-    let pending = visited + image::VISITED_WIDTH as u32 * capacities.visited;
-    let equals = pending + image::PENDING_WIDTH as u32 * capacities.pending;
     put_front(image, names, functor);
-    put_region(image, 0, entries, capacities.entries);
-    put_region(image, 1, fields, capacities.fields);
-    put_region(image, 2, bounds, capacities.bounds);
-    put_region(image, 3, visited, capacities.visited);
-    put_region(image, 4, pending, capacities.pending);
-    put_region(image, 5, equals, capacities.equals);
+    let mut at: usize = image::HEADER_WORDS;
+    let mut k: usize = 0;
+    while k < image::REGIONS {
+        put_region(image, k, at as u32, sizes[k]);
+        at = at + image::WIDTHS[k] * image::wide(sizes[k]);
+        k += 1;
+    }
 }
 
 // Whether an image can be started so.
-fn capacities_right(image: &[u32], names: u32, functor: u32, capacities: Capacities) -> bool
-    ensures { λ r. ⌜ r ≡ capacitiesRight names functor (capacitiesOf capacities) (now (image .entry)) ⌝ }
+fn capacities_right(image: &[u32], names: u32, functor: u32, sizes: &[u32]) -> bool
+    requires { ⌜ length (now sizes) ≡ length (regions newest) ⌝ }
+    ensures { λ r. ⌜ r ≡ allOf (allSmall (regions newest) (now (sizes .entry)) ∷ eqb (headerWords + sizeOf (regions newest) (now (sizes .entry))) (length (now (image .entry))) ∷ leb names namesMost ∷ leb functor names ∷ []) ⌝ }
 {
-    let small = capacities_small(capacities);
-    let size = size_of(capacities);
-    small & (size == image.len()) & (names <= image::NAMES_MOST) & (functor <= names)
+    if !all_small(sizes) {
+        return false;
+    }
+    (size_of(sizes) == image.len()) & (names <= image::NAMES_MOST) & (functor <= names)
 }
 
 // Starts an image: idle, at level 0, with nothing in its regions. A refusal leaves every word as found.
@@ -105,10 +108,18 @@ pub fn start(image: &mut [u32], names: u32, functor: u32, capacities: Capacities
     ensures { λ r. ⌜ toldReply r ≡ startOf names functor (capacitiesOf capacities) (now (image .entry)) .says ⌝ }
     ensures { λ _. ⌜ now (image .exit) ≡ startOf names functor (capacitiesOf capacities) (now (image .entry)) .words ⌝ }
 {
-    if !capacities_right(image, names, functor, capacities) {
+    let sizes = [
+        capacities.entries,
+        capacities.fields,
+        capacities.bounds,
+        capacities.visited,
+        capacities.pending,
+        capacities.equals,
+    ];
+    if !capacities_right(image, names, functor, &sizes) {
         return Reply::Refused(Refusal::BadCapacity);
     }
     clear(image);
-    put_header(image, names, functor, capacities);
+    put_header(image, names, functor, &sizes);
     Reply::Done
 }

@@ -1,137 +1,129 @@
--- `put_header`: writes the header of an empty image over zeroes.
-use Rattle.image.specs.Stores.{headedFrom, headed}
+-- `put_header`: the words written so far leave those of the regions that are left.
+use Prim.Native.Nat.{ℕ, _+_, _-_, _≤_}
 use native.Mathlib.Omega.{arith}
 use borrow.Author.Needs.{needs}
+use mathlib.Core.Path.{_≡_, refl, sym, ap, _∙_}
+use mathlib.Core.List.{List}
+use denote.Ref.{now}
+use lib.ListN.{length, set}
+use Rattle.model.specs.Format.{regions, newest, headerWords, formatAt, formatWord, namesAt, functorAt}
+use Rattle.model.specs.Image.{sizeOf}
+use Rattle.image.specs.Stores.{headedFrom}
+use Rattle.start.proofs.Sizes.{regionsMany, sizeFrom, headFrom, size-on, head-on, head-end, little}
 use Rattle.start.proofs.put_header.Statement.{statement}
 use Rattle.start.proofs.put_header.Tie as tie
 use Rattle.start.proofs.put_header.Reads as reads
 use Rattle.start.proofs.put_header.Lts as lts
+use Rattle.image.proofs.wide.Reads as wide-reads
 use Rattle.start.proofs.put_front.Reads as put-front-reads
 use Rattle.start.proofs.put_region.Reads as put-region-reads
 
-cast-entries : tie.Need-cast-entries
-cast-entries c = search needs
+abbrev Inv-loop : tie.InvT-loop
+Inv-loop image₀ names functor sizes at₀ k₀ image at k = (k ≤ regionsMany) × (at + sizeFrom k sizes ≡ headerWords + sizeOf (regions newest) sizes) × (length image ≡ length image₀) × (headFrom k at sizes image ≡ headFrom 0 headerWords sizes image₀)
 
-cast-fields : tie.Need-cast-fields
-cast-fields c = search needs
+abbrev μ-loop : tie.MeasureT-loop
+μ-loop image₀ names functor sizes at₀ k₀ image at k = regionsMany - k
 
-mul-fields : tie.Need-mul-fields
-mul-fields c = search needs
-
-add-fields : tie.Need-add-fields
-add-fields c = search needs
-
-cast-bounds : tie.Need-cast-bounds
-cast-bounds c = search needs
-
-mul-bounds : tie.Need-mul-bounds
-mul-bounds c = search needs
-
-add-bounds : tie.Need-add-bounds
-add-bounds c = search needs
-
-cast-visited : tie.Need-cast-visited
-cast-visited c = search needs
-
-mul-visited : tie.Need-mul-visited
-mul-visited c = search needs
-
-add-visited : tie.Need-add-visited
-add-visited c = search needs
-
-cast-pending : tie.Need-cast-pending
-cast-pending c = search needs
-
-mul-pending : tie.Need-mul-pending
-mul-pending c = search needs
-
-add-pending : tie.Need-add-pending
-add-pending c = search needs
-
-cast-equals : tie.Need-cast-equals
-cast-equals c = search needs
-
-mul-equals : tie.Need-mul-equals
-mul-equals c = search needs
-
-add-equals : tie.Need-add-equals
-add-equals c = search needs
-
-put-front-requires : tie.Need-put-front-requires
+put-front-requires : tie.Need-put-front-requires Inv-loop μ-loop
 put-front-requires c κs = search needs
 
-put-region-requires : tie.Need-put-region-requires
-put-region-requires c κs = search needs
+loop-holds : tie.Need-loop-holds Inv-loop μ-loop
+loop-holds c = (omega arith, refl, refl, refl)
 
-put-region-requires-2 : tie.Need-put-region-requires-2
-put-region-requires-2 c κs = search needs
+cast-put-region : tie.Need-cast-put-region Inv-loop μ-loop
+cast-put-region c =
+    let s = c .before .before .before .before .before .before .before .before .before in
+    let m = little (now (s .args .sizes)) (s .pre .1 .1) in
+    omega (arith, c .before .before .loop .inv .1)
 
-put-region-requires-3 : tie.Need-put-region-requires-3
-put-region-requires-3 c κs = search needs
+mul-put-region : tie.Need-mul-put-region Inv-loop μ-loop
+mul-put-region c = search needs
 
-put-region-requires-4 : tie.Need-put-region-requires-4
-put-region-requires-4 c κs = search needs
+shared-slice-read-put-region : tie.Need-shared-slice-read-put-region Inv-loop μ-loop
+shared-slice-read-put-region c = search needs
 
-put-region-requires-5 : tie.Need-put-region-requires-5
-put-region-requires-5 c κs =
-    let i5 = c .before .before in
-    let i4 = i5 .before .before .before .before in
-    let i3 = i4 .before .before .before .before in
-    let i2 = i3 .before .before .before .before in
-    let i1 = i2 .before .before .before .before in
-    omega (arith, i5 .image5 .given, i4 .image4 .given, i3 .image3 .given, i2 .image2 .given, i1 .image .given, i1 .before .before .before .before .before .before .before .before .before .pre .0)
+put-region-requires : tie.Need-put-region-requires Inv-loop μ-loop
+put-region-requires c κs = omega (arith, c .before .before .before .loop .inv .2, c .before .before .before .before .before .image .given, c .before .before .before .before .before .before .before .before .before .before .pre .0)
 
-put-region-requires-6 : tie.Need-put-region-requires-6
-put-region-requires-6 c κs =
-    let i6 = c .before .before in
-    let i5 = i6 .before .before .before .before in
-    let i4 = i5 .before .before .before .before in
-    let i3 = i4 .before .before .before .before in
-    let i2 = i3 .before .before .before .before in
-    let i1 = i2 .before .before .before .before in
-    omega (arith, i6 .image6 .given, i5 .image5 .given, i4 .image4 .given, i3 .image3 .given, i2 .image2 .given, i1 .image .given, i1 .before .before .before .before .before .before .before .before .before .pre .0)
+mul-at : tie.Need-mul-at Inv-loop μ-loop
+mul-at c = search needs
 
-same-length : tie.Need-same-length
-same-length c = search needs
+array-read-at : tie.Need-array-read-at Inv-loop μ-loop
+array-read-at c = search needs
 
-returns : tie.Need-returns
-unfolding headed headedFrom
+mul-wide : tie.Need-mul-wide Inv-loop μ-loop
+mul-wide c = search needs
+
+shared-slice-read-wide : tie.Need-shared-slice-read-wide Inv-loop μ-loop
+shared-slice-read-wide c = search needs
+
+wide-requires : tie.Need-wide-requires Inv-loop μ-loop
+wide-requires c κs = search needs
+
+mul-at-2 : tie.Need-mul-at-2 Inv-loop μ-loop
+mul-at-2 c =
+    let l = c .before .before .before .before .before .before .before .before .loop in
+    let s = c .before .before .before .before .before .before .before .before .before .before .before .before .before .before .before in
+    let m = little (now (s .args .sizes)) (s .pre .1 .1) in
+    let on = size-on (now (s .args .sizes)) (s .pre .1 .0) (l .k) (omega arith) (l .at) (c .wide .result) _ (c .wide .ensures) (l .inv .1) in
+    omega (arith, on)
+
+add-at : tie.Need-add-at Inv-loop μ-loop
+add-at c =
+    let l = c .before .before .before .before .before .before .before .before .loop in
+    let s = c .before .before .before .before .before .before .before .before .before .before .before .before .before .before .before in
+    let m = little (now (s .args .sizes)) (s .pre .1 .1) in
+    let on = size-on (now (s .args .sizes)) (s .pre .1 .0) (l .k) (omega arith) (l .at) (c .wide .result) _ (c .wide .ensures) (l .inv .1) in
+    omega (arith, on)
+
+add-k : tie.Need-add-k Inv-loop μ-loop
+add-k c = search needs
+
+loop-less : tie.Need-loop-less Inv-loop μ-loop
+loop-less c = search needs
+
+loop-again : tie.Need-loop-again Inv-loop μ-loop
+loop-again c =
+    let l = c .before .before .before .before .before .before .before .before .loop in
+    let s = c .before .before .before .before .before .before .before .before .before .before .before .before .before .before .before in
+    let on = size-on (now (s .args .sizes)) (s .pre .1 .0) (l .k) (omega arith) (l .at) (c .wide .result) _ (c .wide .ensures) (l .inv .1) in
+    let w = head-on (now (s .args .sizes)) (s .pre .1 .0) (l .k) (omega arith) (l .at) (l .image) in
+    (omega arith, on, c .before .before .before .image2 .given ∙ l .inv .2, rw (c .before .before .before .before .put-region .ensures, c .wide .ensures) (sym w ∙ l .inv .3))
+
+same-length : tie.Need-same-length Inv-loop μ-loop
+same-length c = c .before .loop .inv .2 ∙ c .before .before .before .image .given
+
+returns : tie.Need-returns Inv-loop μ-loop
 returns c =
-    let r6 = c .before .before in
-    let r5 = r6 .before .before .before .before in
-    let r4 = r5 .before .before .before .before in
-    let r3 = r4 .before .before .before .before in
-    let r2 = r3 .before .before .before .before in
-    let r1 = r2 .before .before .before .before in
-    let r0 = r1 .before .before .before .before in
-    rw (r6 .put-region6 .ensures, r5 .put-region5 .ensures, r4 .put-region4 .ensures, r3 .put-region3 .ensures, r2 .put-region2 .ensures, r1 .put-region .ensures, r0 .put-front .ensures)
+    let l = c .before .loop in
+    let cs = now (c .before .before .before .before .before .before .before .before .args .sizes) in
+    let e : regionsMany ≡ l .k = omega arith in
+    sym (head-end (l .at) cs (l .image))
+    ∙ ap (λ (k : ℕ). headFrom k (l .at) cs (l .image)) e
+    ∙ l .inv .3
+    ∙ ap (λ (w : List ℕ). headFrom 0 headerWords cs w) (c .before .before .before .before .put-front .ensures)
 
 pub put-header-spec : {M : Type 1} → statement M
 put-header-spec =
     tie.close
     (tie.spec
-    cast-entries
-    cast-fields
-    mul-fields
-    add-fields
-    cast-bounds
-    mul-bounds
-    add-bounds
-    cast-visited
-    mul-visited
-    add-visited
-    cast-pending
-    mul-pending
-    add-pending
-    cast-equals
-    mul-equals
-    add-equals
+    Inv-loop
+    μ-loop
     put-front-requires
+    loop-holds
+    cast-put-region
+    mul-put-region
+    shared-slice-read-put-region
     put-region-requires
-    put-region-requires-2
-    put-region-requires-3
-    put-region-requires-4
-    put-region-requires-5
-    put-region-requires-6
+    mul-at
+    array-read-at
+    mul-wide
+    shared-slice-read-wide
+    wide-requires
+    mul-at-2
+    add-at
+    add-k
+    loop-less
+    loop-again
     same-length
     returns)

@@ -1,13 +1,13 @@
 -- `start`: starts an image, or refuses and leaves every word as found.
 use Rattle.start.proofs.Starting.{right-size, start-refused, start-done}
-use Rattle.laws.proofs.Calls.{right-small}
-use Rattle.image.specs.Stores.{capacitiesOf}
-use Rattle.laws.proofs.Tests.{of-true}
+use Rattle.image.specs.Stores.{capacitiesOf, headed}
+use Rattle.laws.proofs.Tests.{of-true, nth}
 use Rattle.model.specs.Image.{imageLength}
+use Rattle.model.specs.Calls.{capacitiesRight}
 use borrow.Author.Tests.{not-true, not-false}
 use denote.Ref.{now}
 use lib.ListN.{length}
-use mathlib.Core.Path.{_≡_, sym, _∙_}
+use mathlib.Core.Path.{_≡_, refl, sym, _∙_}
 use native.Mathlib.Omega.{arith}
 use borrow.Author.Needs.{needs}
 use Rattle.start.proofs.start.Statement.{statement}
@@ -18,6 +18,9 @@ use Rattle.start.proofs.capacities_right.Reads as capacities-right-read
 use Rattle.start.proofs.clear.Reads as clear-reads
 use Rattle.start.proofs.put_header.Reads as put-header-reads
 
+slice-aggregate-capacities-right : tie.Need-slice-aggregate-capacities-right
+slice-aggregate-capacities-right c = search needs
+
 capacities-right-requires : tie.Need-capacities-right-requires
 capacities-right-requires c κs = search needs
 
@@ -25,38 +28,47 @@ same-length : tie.Need-same-length
 same-length c = search needs
 
 returns : tie.Need-returns
+unfolding capacitiesRight
 returns c =
-    let a = c .before .before .before .before .args in
+    let a = c .before .before .before .before .before .args in
     start-refused (a .names) (a .functor) (capacitiesOf (a .capacities)) (now (a .image)) (sym (c .before .capacities-right .ensures) ∙ not-true _ (c .if1 .taken))
 
 clear-requires : tie.Need-clear-requires
 clear-requires c κs = search needs
 
+slice-aggregate-put-header : tie.Need-slice-aggregate-put-header
+slice-aggregate-put-header c = search needs
+
 put-header-requires : tie.Need-put-header-requires
+unfolding capacitiesRight
 put-header-requires c κs =
-    let a = c .before .before .before .before .before .before .before .before .before .args in
+    let a = c .before .before .before .before .before .before .before .before .before .before .before .args in
     let w = now (a .image) in
     let k = capacitiesOf (a .capacities) in
-    let h = of-true _ (sym (c .before .before .before .before .before .before .capacities-right .ensures) ∙ not-false _ (c .before .before .before .before .before .if1 .left)) in
+    let h = of-true _ (sym (c .before .before .before .before .before .before .before .capacities-right .ensures) ∙ not-false _ (c .before .before .before .before .before .before .if1 .left)) in
     let n : length w ≡ imageLength k = right-size (a .names) (a .functor) k w h in
-    (omega (arith, c .before .before .image .given), right-small (a .names) (a .functor) k w h)
+    (omega (arith, c .before .before .before .image .given), (refl, nth _ 0 h))
 
 same-length-2 : tie.Need-same-length-2
 same-length-2 c = search needs
 
 returns-2 : tie.Need-returns-2
+unfolding capacitiesRight headed
 returns-2 c =
-    let a = c .before .before .before .before .before .before .before .before .before .before .before .before .args in
-    start-done (a .names) (a .functor) (capacitiesOf (a .capacities)) (now (a .image)) (sym (c .before .before .before .before .before .before .before .before .before .capacities-right .ensures) ∙ not-false _ (c .before .before .before .before .before .before .before .before .if1 .left)) _ _ (c .before .before .before .before .before .before .clear .ensures) (c .before .before .put-header .ensures)
+    let a = c .before .before .before .before .before .before .before .before .before .before .before .before .before .before .args in
+    let h = sym (c .before .before .before .before .before .before .before .before .before .before .capacities-right .ensures) ∙ not-false _ (c .before .before .before .before .before .before .before .before .before .if1 .left) in
+    start-done (a .names) (a .functor) (capacitiesOf (a .capacities)) (now (a .image)) h _ _ (c .before .before .before .before .before .before .before .clear .ensures) (c .before .before .put-header .ensures)
 
 pub start-spec : {M : Type 1} → statement M
 start-spec =
     tie.close
     (tie.spec
+    slice-aggregate-capacities-right
     capacities-right-requires
     same-length
     returns
     clear-requires
+    slice-aggregate-put-header
     put-header-requires
     same-length-2
     returns-2)
