@@ -14,34 +14,14 @@ use Rattle.model.specs.Lists.{allOf}
 use Rattle.model.specs.Format.{Region, noRegion, rows, regions, newest}
 use Rattle.model.specs.Parts.{word, regionRight, regionsRight, restZero, restsZero}
 use Rattle.image.specs.Laid.{Laid}
+use Rattle.image.proofs.Listed.{widths, mosts, regionsMany, rowsMany, width-at, most-at, narrow}
 use Rattle.formed.specs.Grouped.{RegionInside}
-
-abbrev pub widths : List ℕ
-widths = 7 ∷ 3 ∷ 3 ∷ 2 ∷ 2 ∷ 2 ∷ []
-
-abbrev pub mosts : List ℕ
-mosts = 4096 ∷ 16384 ∷ 65536 ∷ 65536 ∷ 65536 ∷ 65536 ∷ []
-
--- the code's two tables are the format's
-pub record Row (j : ℕ) : Type 0 where
-  pub width : getD widths j 0 ≡ getD (regions newest) j noRegion .width
-  pub most : getD mosts j 0 ≡ getD (regions newest) j noRegion .most
-  pub narrow : getD widths j 0 ≤ 7
-
-pub row : (j : ℕ) → j < 6 → Row j
-row zero h = record { width = refl; most = refl; narrow = omega arith }
-row (suc zero) h = record { width = refl; most = refl; narrow = omega arith }
-row (suc (suc zero)) h = record { width = refl; most = refl; narrow = omega arith }
-row (suc (suc (suc zero))) h = record { width = refl; most = refl; narrow = omega arith }
-row (suc (suc (suc (suc zero)))) h = record { width = refl; most = refl; narrow = omega arith }
-row (suc (suc (suc (suc (suc zero))))) h = record { width = refl; most = refl; narrow = omega arith }
-row (suc (suc (suc (suc (suc (suc j)))))) h = absurd (omega arith)
 
 -- the tests from region j + 1 on
 abbrev pub testsFrom : List ℕ → ℕ → ℕ → Bool
 testsFrom w j at = regionsRight (drop j (regions newest)) (1 + j) at w
 
-module _ (w : List ℕ) (j at : ℕ) (h : j < 6) where
+module _ (w : List ℕ) (j at : ℕ) (h : j < regionsMany) where
   rest : Bool
   rest = testsFrom w (j + 1) (at + getD widths j 0 * word w (10 + 3 * j))
 
@@ -52,7 +32,7 @@ module _ (w : List ℕ) (j at : ℕ) (h : j < 6) where
       let e₂ : 7 + 3 * (1 + j) ≡ 10 + 3 * j = omega arith in
       let e₃ : 8 + 3 * (1 + j) ≡ 11 + 3 * j = omega arith in
       let e₄ : 1 + suc j ≡ suc (1 + j) = omega arith in
-      rw (add-one j, drop-cons (regions newest) j noRegion h, row j h .width, row j h .most, e₁, e₂, e₃, e₄)
+      rw (add-one j, drop-cons (regions newest) j noRegion h, width-at j, most-at j, e₁, e₂, e₃, e₄)
 
   pub off-place : (word w (9 + 3 * j) ≡ at → ⊥) → testsFrom w j at ≡ false
   unfolding allOf
@@ -72,16 +52,16 @@ module _ (w : List ℕ) (j at : ℕ) (h : j < 6) where
     unfolding allOf rest
     goes-on m l = tests ∙ rw (eq-eqb (word w (9 + 3 * j)) at o, le-leb (word w (10 + 3 * j)) (getD mosts j 0) m, le-leb (word w (11 + 3 * j)) (word w (10 + 3 * j)) l)
 
-pub at-end : (w : List ℕ) (at : ℕ) → testsFrom w 6 at ≡ eqb at (length w)
+pub at-end : (w : List ℕ) (at : ℕ) → testsFrom w regionsMany at ≡ eqb at (length w)
 unfolding regionsRight
 at-end w at = refl
 
 -- a region's words stay far below what a usize takes
-pub little : (j c : ℕ) → j < 6 → c < 4294967296 → getD widths j 0 * c ≤ 30064771072
-little j c h k = let m : getD widths j 0 * c ≤ 7 * c = mul-le-mul-right c (row j h .narrow) in omega arith
+pub little : (j c : ℕ) → j < regionsMany → c < 4294967296 → getD widths j 0 * c ≤ 30064771072
+little j c h k = let m : getD widths j 0 * c ≤ 7 * c = mul-le-mul-right c (narrow j h) in omega arith
 
 -- each region inside the words
-pub laid-inside : {w : List ℕ} → Laid w → (j : ℕ) → j < 6 → RegionInside w (j + 1) (getD widths j 0)
+pub laid-inside : {w : List ℕ} → Laid w → (j : ℕ) → j < rowsMany → RegionInside w (j + 1) (getD widths j 0)
 laid-inside l zero h = record { head = l .head; number = omega arith; narrow = omega arith; held = l .entries .held; inside = omega arith }
 laid-inside l (suc zero) h = record { head = l .head; number = omega arith; narrow = omega arith; held = l .fields .held; inside = omega arith }
 laid-inside l (suc (suc zero)) h = record { head = l .head; number = omega arith; narrow = omega arith; held = l .bounds .held; inside = omega arith }
@@ -94,7 +74,7 @@ laid-inside l (suc (suc (suc (suc (suc (suc j)))))) h = absurd (omega arith)
 abbrev pub zerosFrom : List ℕ → ℕ → Bool
 zerosFrom w j = restsZero (drop j (rows newest)) (1 + j) w
 
-pub zeros-on : (w : List ℕ) (j : ℕ) → j < 6 → zerosFrom w j ≡ restZero w (j + 1) (getD widths j 0) && zerosFrom w (j + 1)
+pub zeros-on : (w : List ℕ) (j : ℕ) → j < rowsMany → zerosFrom w j ≡ restZero w (j + 1) (getD widths j 0) && zerosFrom w (j + 1)
 unfolding restsZero
 zeros-on w j h =
     let e₁ : j + 1 ≡ 1 + j = omega arith in
@@ -104,9 +84,9 @@ zeros-on w j h =
     let there : restsZero (drop (suc j) (rows newest)) (suc (1 + j)) w ≡ zerosFrom w (j + 1) = rw (e₂, add-one j) in
     here
     ∙ ap (λ (n : ℕ). restZero w n (getD (rows newest) j noRegion .width) && restsZero (drop (suc j) (rows newest)) (suc (1 + j)) w) (sym e₁)
-    ∙ ap (λ (n : ℕ). restZero w (j + 1) n && restsZero (drop (suc j) (rows newest)) (suc (1 + j)) w) (sym (row j h .width))
+    ∙ ap (λ (n : ℕ). restZero w (j + 1) n && restsZero (drop (suc j) (rows newest)) (suc (1 + j)) w) (sym (width-at j))
     ∙ ap (λ (b : Bool). restZero w (j + 1) (getD widths j 0) && b) there
 
-pub zeros-end : (w : List ℕ) → zerosFrom w 6 ≡ true
+pub zeros-end : (w : List ℕ) → zerosFrom w rowsMany ≡ true
 unfolding restsZero
 zeros-end w = refl

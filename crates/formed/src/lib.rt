@@ -171,7 +171,7 @@ fn rests_zero(image: &[u32]) -> bool
 {
     let mut ok = true;
     let mut k: usize = 0;
-    while k < image::REGIONS {
+    while k < image::ROWS {
         ok = ok & rest_zero(image, k + 1, image::WIDTHS[k]);
         k += 1;
     }

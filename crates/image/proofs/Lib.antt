@@ -4,3 +4,4 @@ pub mod ReadOut
 pub mod Laying
 pub mod Searching
 pub mod Lent
+pub mod Listed

@@ -130,6 +130,9 @@ pub const IN_EQUALS: usize = EQUALS as usize;
 // How many regions there are.
 pub const REGIONS: usize = 6;
 
+// How many of them, from the first on, have their records in a row, free ones behind them.
+pub const ROWS: usize = 6;
+
 // Words per record.
 pub const ENTRY_WIDTH: usize = 7;
 

@@ -6,7 +6,7 @@ use native.Mathlib.Numerals.{add-one}
 use mathlib.Core.Path.{_≡_, refl, sym, ap, _∙_}
 use mathlib.Core.List.{List, [], _∷_, map}
 use mathlib.Core.Bool.{Bool, true, _&&_}
-use lib.ListN.{length, getD, drop, List·getD-map}
+use lib.ListN.{length, getD, drop}
 use lib.Seq.{sets, drop-cons}
 use lib.Dec.{T, leb}
 use Rattle.model.specs.Format.{Region, noRegion, regions, newest, offsetAt}
@@ -14,16 +14,7 @@ use Rattle.model.specs.Image.{sizeOf}
 use Rattle.model.specs.Calls.{allSmall}
 use Rattle.laws.proofs.Tests.{first, second, le-of}
 use Rattle.image.specs.Stores.{headedFrom}
-
--- the code's two tables are the format's
-abbrev pub widths : List ℕ
-widths = map (λ r. r .width) (regions newest)
-
-abbrev pub mosts : List ℕ
-mosts = map (λ r. r .most) (regions newest)
-
-abbrev pub regionsMany : ℕ
-regionsMany = length (regions newest)
+use Rattle.image.proofs.Listed.{widths, mosts, regionsMany, width-at, most-at}
 
 -- capacities within their maxima take no more words than the maxima
 small-size : (rs : List Region) (cs : List ℕ) → T (allSmall rs cs) → sizeOf rs cs ≤ sizeOf rs (map (λ r. r .most) rs)
@@ -57,10 +48,10 @@ module _ (cs : List ℕ) (n : length cs ≡ regionsMany) (k : ℕ) (h : k < regi
 
   pub small-on : smallFrom k cs ≡ leb (getD cs k 0) (getD mosts k 0) && smallFrom (k + 1) cs
   unfolding allSmall
-  small-on = rw (List·getD-map (λ r. r .most) (regions newest) k noRegion, region-here, size-here)
+  small-on = rw (most-at k, region-here, size-here)
 
   size-here-on : sizeFrom k cs ≡ getD widths k 0 * getD cs k 0 + sizeFrom (k + 1) cs
-  size-here-on = rw (List·getD-map (λ r. r .width) (regions newest) k noRegion, region-here, size-here)
+  size-here-on = rw (width-at k, region-here, size-here)
 
   pub size-on : (at c all : ℕ) → c ≡ getD cs k 0 → at + sizeFrom k cs ≡ all → at + getD widths k 0 * c + sizeFrom (k + 1) cs ≡ all
   size-on at c all e h = rw e (omega (arith, h, size-here-on))
@@ -70,7 +61,7 @@ module _ (cs : List ℕ) (n : length cs ≡ regionsMany) (k : ℕ) (h : k < regi
   head-on at w =
       let e₁ : 6 + 3 * (1 + k) ≡ 9 + 3 * k = omega arith in
       let e₂ : 1 + (k + 1) ≡ suc (1 + k) = omega arith in
-      rw (List·getD-map (λ r. r .width) (regions newest) k noRegion, region-here, size-here, ← e₁, e₂)
+      rw (width-at k, region-here, size-here, ← e₁, e₂)
 
 pub small-end : (cs : List ℕ) → smallFrom regionsMany cs ≡ true
 unfolding allSmall

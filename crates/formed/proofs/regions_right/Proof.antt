@@ -6,6 +6,7 @@ use mathlib.Core.Path.{_≡_, refl, sym, ap, _∙_}
 use denote.Ref.{now}
 use Rattle.model.specs.Format.{regions, newest, headerWords}
 use Rattle.model.specs.Parts.{regionsRight}
+use Rattle.image.proofs.Listed.{regionsMany}
 use Rattle.formed.proofs.Lying.{testsFrom, off-place, over-most, over-room, goes-on, at-end, little}
 use Rattle.formed.proofs.regions_right.Statement.{statement}
 use Rattle.formed.proofs.regions_right.Tie as tie
@@ -14,10 +15,10 @@ use Rattle.formed.proofs.regions_right.Lts as lts
 use Rattle.formed.proofs.wide.Reads as wide-reads
 
 abbrev Inv-loop : tie.InvT-loop
-Inv-loop image at₀ k₀ at k = (k ≤ 6) × (at ≤ headerWords + 30064771072 * k) × (testsFrom image k at ≡ regionsRight (regions newest) 1 headerWords image)
+Inv-loop image at₀ k₀ at k = (k ≤ regionsMany) × (at ≤ headerWords + 30064771072 * k) × (testsFrom image k at ≡ regionsRight (regions newest) 1 headerWords image)
 
 abbrev μ-loop : tie.MeasureT-loop
-μ-loop image at₀ k₀ at k = 6 - k
+μ-loop image at₀ k₀ at k = regionsMany - k
 
 loop-holds : tie.Need-loop-holds Inv-loop μ-loop
 loop-holds c = (omega arith, omega arith, refl)
@@ -124,7 +125,7 @@ returns-4 : tie.Need-returns-4 Inv-loop μ-loop
 returns-4 c =
     let w = now (c .before .before .before .args .image) in
     let l = c .before .loop in
-    let e : 6 ≡ l .k = omega arith in
+    let e : regionsMany ≡ l .k = omega arith in
     sym (at-end w (l .at)) ∙ ap (λ (k : ℕ). testsFrom w k (l .at)) e ∙ l .inv .2
 
 pub regions-right-spec : {M : Type 1} → statement M

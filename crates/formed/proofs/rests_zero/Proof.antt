@@ -7,6 +7,7 @@ use mathlib.Core.Bool.{Bool, _&&_, and-assoc, and-true}
 use denote.Ref.{now}
 use Rattle.model.specs.Format.{rows, newest}
 use Rattle.model.specs.Parts.{restsZero}
+use Rattle.image.proofs.Listed.{rowsMany}
 use Rattle.formed.proofs.Lying.{laid-inside, zerosFrom, zeros-on, zeros-end}
 use Rattle.formed.proofs.rests_zero.Statement.{statement}
 use Rattle.formed.proofs.rests_zero.Tie as tie
@@ -15,10 +16,10 @@ use Rattle.formed.proofs.rests_zero.Lts as lts
 use Rattle.formed.proofs.rest_zero.Reads as rest-zero-reads
 
 abbrev Inv-loop : tie.InvT-loop
-Inv-loop image ok₀ k₀ ok k = (k ≤ 6) × ((ok && zerosFrom image k) ≡ restsZero (rows newest) 1 image)
+Inv-loop image ok₀ k₀ ok k = (k ≤ rowsMany) × ((ok && zerosFrom image k) ≡ restsZero (rows newest) 1 image)
 
 abbrev μ-loop : tie.MeasureT-loop
-μ-loop image ok₀ k₀ ok k = 6 - k
+μ-loop image ok₀ k₀ ok k = rowsMany - k
 
 loop-holds : tie.Need-loop-holds Inv-loop μ-loop
 loop-holds c = (omega arith, refl)
@@ -51,7 +52,7 @@ returns : tie.Need-returns Inv-loop μ-loop
 returns c =
     let l = c .before .loop in
     let w = now (c .before .before .before .args .image) in
-    let e : 6 ≡ l .k = omega arith in
+    let e : rowsMany ≡ l .k = omega arith in
     sym (and-true (l .ok)) ∙ ap (λ (b : Bool). l .ok && b) (sym (zeros-end w) ∙ ap (λ (k : ℕ). zerosFrom w k) e) ∙ l .inv .1
 
 pub rests-zero-spec : {M : Type 1} → statement M

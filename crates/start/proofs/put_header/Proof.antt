@@ -9,7 +9,8 @@ use lib.ListN.{length, set}
 use Rattle.model.specs.Format.{regions, newest, headerWords, formatAt, formatWord, namesAt, functorAt}
 use Rattle.model.specs.Image.{sizeOf}
 use Rattle.image.specs.Stores.{headedFrom}
-use Rattle.start.proofs.Sizes.{regionsMany, sizeFrom, headFrom, size-on, head-on, head-end, little}
+use Rattle.start.proofs.Sizes.{sizeFrom, headFrom, size-on, head-on, head-end, little}
+use Rattle.image.proofs.Listed.{regionsMany}
 use Rattle.start.proofs.put_header.Statement.{statement}
 use Rattle.start.proofs.put_header.Tie as tie
 use Rattle.start.proofs.put_header.Reads as reads

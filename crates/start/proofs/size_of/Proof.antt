@@ -6,7 +6,8 @@ use mathlib.Core.Path.{_≡_, refl, sym, ap, _∙_}
 use denote.Ref.{now}
 use Rattle.model.specs.Format.{regions, newest, headerWords}
 use Rattle.model.specs.Image.{sizeOf}
-use Rattle.start.proofs.Sizes.{regionsMany, sizeFrom, size-on, little}
+use Rattle.start.proofs.Sizes.{sizeFrom, size-on, little}
+use Rattle.image.proofs.Listed.{regionsMany}
 use Rattle.start.proofs.size_of.Statement.{statement}
 use Rattle.start.proofs.size_of.Tie as tie
 use Rattle.start.proofs.size_of.Reads as reads
