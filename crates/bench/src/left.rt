@@ -14,15 +14,15 @@ const MOST: u32 = 40;
 
 // All of it, on a line of its own.
 pub fn print_left(words: &[u32]) {
-    let entries = count(words, image::ENTRIES);
+    let entries = count(words, image::format::ENTRIES);
     print(b"\n    ");
     print_number(entries);
     print(b" entries");
     print_made(words, entries);
     print(b"; bounds");
-    print_records(words, image::BOUNDS);
+    print_records(words, image::format::BOUNDS);
     print(b"; visited");
-    print_records(words, image::VISITED);
+    print_records(words, image::format::VISITED);
     print(b"\n");
 }
 

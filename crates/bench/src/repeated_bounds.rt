@@ -14,7 +14,7 @@ pub fn print_counts() {
     make_entries(&mut words);
     put_bounds(&mut words);
     print(b"Lower bounds 1 to 32 put: ");
-    print_number(count(&words, image::BOUNDS));
+    print_number(count(&words, image::format::BOUNDS));
     print(b" bounds");
     print_put(&mut words, 5);
     print_put(&mut words, 33);
@@ -56,16 +56,16 @@ fn make_entries(words: &mut [u32]) {
 fn put_bounds(words: &mut [u32]) {
     let mut bound: u32 = 1;
     while bound <= 32 {
-        sheafwinch::put_bound(words, VARIABLE, image::LOWER, bound);
+        sheafwinch::put_bound(words, VARIABLE, image::format::LOWER, bound);
         bound += 1;
     }
 }
 
 // Puts a lower bound, and tells how many there are then.
 fn print_put(words: &mut [u32], bound: u32) {
-    sheafwinch::put_bound(words, VARIABLE, image::LOWER, bound);
+    sheafwinch::put_bound(words, VARIABLE, image::format::LOWER, bound);
     print(b"; then ");
     print_number(bound);
     print(b": ");
-    print_number(count(words, image::BOUNDS));
+    print_number(count(words, image::format::BOUNDS));
 }

@@ -16,7 +16,7 @@ pub fn print_counts() {
     let mut words = random();
     print_number(count_refused(&words, MOST_WORDS));
     print(b", and with word 0 right: ");
-    words[image::FORMAT_AT] = image::FORMAT;
+    words[image::format::FORMAT_AT] = image::format::FORMAT;
     print_number(count_refused(&words, MOST_WORDS));
     print(b"\n");
 }

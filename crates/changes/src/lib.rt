@@ -24,7 +24,7 @@ pub fn variable_in(image: &mut [u32]) -> Made
         return Made::Refused(Refusal::Busy);
     }
     let level = image::level(image);
-    type_table::make(image, image::VARIABLE, level, 0)
+    type_table::make(image, image::format::VARIABLE, level, 0)
 }
 
 // Makes a primitive, 0 to 7.
@@ -36,10 +36,10 @@ pub fn primitive_in(image: &mut [u32], which: u32) -> Made
     if image::is_asked(image) {
         return Made::Refused(Refusal::Busy);
     }
-    if image::NUMBER < which {
+    if image::format::NUMBER < which {
         return Made::Refused(Refusal::BadNumber);
     }
-    type_table::make(image, image::PRIMITIVE, which, 0)
+    type_table::make(image, image::format::PRIMITIVE, which, 0)
 }
 
 // Makes an entry of one component, and a word that is none: a list, or named.
@@ -151,13 +151,13 @@ pub fn bound_in(image: &mut [u32], v: u32, side: u32, b: u32) -> Reply
     if image::entries_count(image) <= v {
         return Reply::Refused(Refusal::BadNumber);
     }
-    if image::UPPER < side {
+    if image::format::UPPER < side {
         return Reply::Refused(Refusal::BadNumber);
     }
     if image::entries_count(image) <= b {
         return Reply::Refused(Refusal::BadNumber);
     }
-    if image::entry_word(image, v, image::KIND_WORD) != image::VARIABLE {
+    if image::entry_word(image, v, image::format::KIND_WORD) != image::format::VARIABLE {
         return Reply::Refused(Refusal::NotAVariable);
     }
     storage::put_bound(image, v, side, b)
@@ -199,7 +199,7 @@ pub fn level_in(image: &mut [u32], v: u32, level: u32) -> Reply
     if image::entries_count(image) <= v {
         return Reply::Refused(Refusal::BadNumber);
     }
-    if image::entry_word(image, v, image::KIND_WORD) != image::VARIABLE {
+    if image::entry_word(image, v, image::format::KIND_WORD) != image::format::VARIABLE {
         return Reply::Refused(Refusal::NotAVariable);
     }
     storage::set_var_level(image, v, level);

@@ -66,7 +66,7 @@ fn is_var(image: &[u32], n: u32) -> bool
     requires { ⌜ n < length (entriesOf (now image)) ⌝ }
     ensures { λ r. ⌜ r ≡ isAt (entriesOf (now (image .entry))) variable n ⌝ }
 {
-    image::entry_word(image, n, image::KIND_WORD) == image::VARIABLE
+    image::entry_word(image, n, image::format::KIND_WORD) == image::format::VARIABLE
 }
 
 // The words of entry n.
@@ -75,9 +75,9 @@ fn words_of(image: &[u32], n: u32) -> Words
     requires { ⌜ n < length (entriesOf (now image)) ⌝ }
     ensures { λ r. ⌜ r ≡ wordsAt (entryAt (entriesOf (now (image .entry))) n) ⌝ }
 {
-    let kind = image::entry_word(image, n, image::KIND_WORD);
-    let x = image::entry_word(image, n, image::X_WORD);
-    let y = image::entry_word(image, n, image::Y_WORD);
+    let kind = image::entry_word(image, n, image::format::KIND_WORD);
+    let x = image::entry_word(image, n, image::format::X_WORD);
+    let y = image::entry_word(image, n, image::format::Y_WORD);
     Words { kind, x, y }
 }
 
@@ -94,7 +94,7 @@ fn asks_dynamic(image: &[u32], a: Attrset, j: u32) -> FieldAsk
     if a.is_open {
         return FieldAsk::Nothing;
     }
-    if image::field_word(image, j, image::OPTIONAL_WORD) == 0 {
+    if image::field_word(image, j, image::format::OPTIONAL_WORD) == 0 {
         return FieldAsk::Missing;
     }
     FieldAsk::Nothing
@@ -107,10 +107,14 @@ pub fn asks(image: &[u32], a: Attrset, j: u32) -> FieldAsk
     requires { ⌜ j < length (fieldsIn (now image)) ⌝ }
     ensures { λ r. ⌜ r ≡ askOf a (fieldsHeld (fieldsIn (now (image .entry))) a) (fieldAt (fieldsIn (now (image .entry))) j) ⌝ }
 {
-    let name = image::field_word(image, j, image::NAME_WORD);
+    let name = image::field_word(image, j, image::format::NAME_WORD);
     let found = disjoint::field_named(image, a.first, a.count, name);
     match found {
-        FieldFound::At(i) => FieldAsk::Under(image::field_word(image, i, image::ENTRY_WORD)),
+        FieldFound::At(i) => FieldAsk::Under(image::field_word(
+            image,
+            i,
+            image::format::ENTRY_WORD,
+        )),
         FieldFound::Nothing => asks_dynamic(image, a, j),
     }
 }
@@ -146,7 +150,7 @@ fn gather(image: &[u32], a: Attrset, b: Attrset) -> Next
             }
             FieldAsk::Nothing => {}
             FieldAsk::Missing => {
-                return Next::Missing(image::field_word(image, j, image::NAME_WORD));
+                return Next::Missing(image::field_word(image, j, image::format::NAME_WORD));
             }
         }
         j += 1;
@@ -252,7 +256,8 @@ fn discriminant_matches(image: &[u32], a: u32, b: u32) -> bool
     requires { ⌜ b < length (entriesOf (now image)) ⌝ }
     ensures { λ r. ⌜ r ≡ isAt (entriesOf (now (image .entry))) (entryAt (entriesOf (now (image .entry))) a .kind) b ⌝ }
 {
-    image::entry_word(image, b, image::KIND_WORD) == image::entry_word(image, a, image::KIND_WORD)
+    image::entry_word(image, b, image::format::KIND_WORD)
+        == image::entry_word(image, a, image::format::KIND_WORD)
 }
 
 // A union of which neither side is disjoint from sub: the one of the same kind if only one is, else both.
@@ -327,7 +332,7 @@ fn constrain_functor(image: &[u32], sub: u32, param: u32, body: u32) -> Next
     let found = disjoint::functor_of(image, sub);
     match found {
         FieldFound::At(i) => Next::Functor {
-            field: image::field_word(image, i, image::ENTRY_WORD),
+            field: image::field_word(image, i, image::format::ENTRY_WORD),
             param,
             body,
         },

@@ -41,7 +41,7 @@ fn first_fit(sub: u32, sup: u32, p: u32, q: u32) -> Arm
         Kinds(0..=19, 0..=19) => {
             if p == q {
                 Arm::Nothing
-            } else if q == image::NUMBER {
+            } else if q == image::format::NUMBER {
                 match p {
                     2..=3 => Arm::Nothing,
                     _ => Arm::Mismatch,

@@ -50,7 +50,7 @@ pub fn field_named(image: &[u32], first: u32, count: u32, name: u32) -> FieldFou
     let end = first + count;
     let mut i = first;
     while i < end {
-        if image::field_word(image, i, image::NAME_WORD) == name {
+        if image::field_word(image, i, image::format::NAME_WORD) == name {
             return FieldFound::At(i);
         }
         i += 1;
@@ -111,10 +111,10 @@ fn lacks_field(image: &[u32], a: Attrset, j: u32) -> bool
     requires { ⌜ j < length (fieldsIn (now image)) ⌝ }
     ensures { λ r. ⌜ r ≡ lacksField (fieldsHeld (fieldsIn (now (image .entry))) a) (fieldAt (fieldsIn (now (image .entry))) j) ⌝ }
 {
-    if image::field_word(image, j, image::OPTIONAL_WORD) != 0 {
+    if image::field_word(image, j, image::format::OPTIONAL_WORD) != 0 {
         return false;
     }
-    let name = image::field_word(image, j, image::NAME_WORD);
+    let name = image::field_word(image, j, image::format::NAME_WORD);
     !is_found(field_named(image, a.first, a.count, name))
 }
 
@@ -166,11 +166,11 @@ fn attrsets_disjoint(image: &[u32], a: Attrset, b: Attrset) -> bool
 fn is_subtype_of(p: u32, q: u32) -> bool
     ensures { λ r. ⌜ r ≡ underNumber p q ⌝ }
 {
-    if q == image::NUMBER {
-        if p == image::INT {
+    if q == image::format::NUMBER {
+        if p == image::format::INT {
             return true;
         }
-        return p == image::FLOAT;
+        return p == image::format::FLOAT;
     }
     false
 }
@@ -267,14 +267,14 @@ pub fn is_concrete_compatible(image: &[u32], sub: u32, target: u32) -> bool
     requires { ⌜ target < length (entriesOf (now image)) ⌝ }
     ensures { λ r. ⌜ r ≡ couldBeUnder (graphIn (now (image .entry))) (entryAt (entriesOf (now (image .entry))) sub) (entryAt (entriesOf (now (image .entry))) target) ⌝ }
 {
-    let kind = image::entry_word(image, target, image::KIND_WORD);
-    if image::entry_word(image, sub, image::KIND_WORD) == kind {
+    let kind = image::entry_word(image, target, image::format::KIND_WORD);
+    if image::entry_word(image, sub, image::format::KIND_WORD) == kind {
         return true;
     }
-    if kind == image::NAMED {
+    if kind == image::format::NAMED {
         return true;
     }
-    if kind == image::LAMBDA {
+    if kind == image::format::LAMBDA {
         return has_functor(image, sub);
     }
     false

@@ -68,7 +68,7 @@ fn draw_fields(list: &[u8], image: &[u32], owner: u32, a: Attrset) {
 
 // A field record.
 fn draw_field(list: &[u8], image: &[u32], owner: u32, n: u32) {
-    match sheafwinch::record(image, image::FIELDS, n) {
+    match sheafwinch::record(image, image::format::FIELDS, n) {
         Record::Field {
             name,
             entry,
@@ -82,7 +82,7 @@ fn draw_field(list: &[u8], image: &[u32], owner: u32, n: u32) {
 fn draw_named(list: &[u8], owner: u32, name: u32, entry: u32, optional: u32) {
     begin(owner, entry);
     print_name(list, name);
-    if optional == image::OPTIONAL {
+    if optional == image::format::OPTIONAL {
         print(b"?\", arrowhead=empty];\n");
     } else {
         print(b"\"];\n");
@@ -97,8 +97,16 @@ fn draw_dynamic(owner: u32, dynamic: u32) {
 
 // Each bound, and each pair asked equal.
 pub fn draw_pairs(image: &[u32]) {
-    draw_region(image, image::BOUNDS, word(image, image::BOUNDS_COUNT_AT));
-    draw_region(image, image::EQUALS, word(image, image::EQUALS_COUNT_AT));
+    draw_region(
+        image,
+        image::format::BOUNDS,
+        word(image, image::format::BOUNDS_COUNT_AT),
+    );
+    draw_region(
+        image,
+        image::format::EQUALS,
+        word(image, image::format::EQUALS_COUNT_AT),
+    );
 }
 
 // A region's records, so many.
@@ -125,7 +133,7 @@ fn draw_record(image: &[u32], region: u32, n: u32) {
 
 // A bound, from what is below to what is above.
 fn draw_bound(variable: u32, side: u32, bound: u32) {
-    if side == image::LOWER {
+    if side == image::format::LOWER {
         begin(bound, variable);
         print(b"lower");
     } else {
@@ -144,7 +152,7 @@ fn draw_equal(left: u32, right: u32) {
 // The pair that failed, where one has.
 pub fn draw_break(list: &[u8], image: &[u32]) {
     let b = header::broken(image);
-    if b.kind != image::UNBROKEN {
+    if b.kind != image::format::UNBROKEN {
         draw_failed(list, b);
     }
 }

@@ -19,7 +19,7 @@ pub fn word(image: &[u32], at: usize) -> u32 {
 // Whether the list is well formed and has as many names as the image.
 pub fn names_fit(list: &[u8], image: &[u32]) -> bool {
     match names::count(list) {
-        Counted::Count(n) => n == word(image, image::NAMES_AT),
+        Counted::Count(n) => n == word(image, image::format::NAMES_AT),
         Counted::Refused(_) => false,
     }
 }
@@ -27,22 +27,22 @@ pub fn names_fit(list: &[u8], image: &[u32]) -> bool {
 // The break words.
 pub fn broken(image: &[u32]) -> Break {
     Break {
-        kind: word(image, image::BREAK_KIND_AT),
-        sub: word(image, image::BREAK_SUB_AT),
-        sup: word(image, image::BREAK_SUP_AT),
-        name: word(image, image::BREAK_NAME_AT),
+        kind: word(image, image::format::BREAK_KIND_AT),
+        sub: word(image, image::format::BREAK_SUB_AT),
+        sup: word(image, image::format::BREAK_SUP_AT),
+        name: word(image, image::format::BREAK_NAME_AT),
     }
 }
 
 // Whether a field is what is missing.
 pub fn lacks_field(b: Break) -> bool {
-    b.kind == image::FIELD_MISSING
+    b.kind == image::format::FIELD_MISSING
 }
 
 // Whether the pair that failed has entry n.
 pub fn is_broken_at(image: &[u32], n: u32) -> bool {
     let b = broken(image);
-    (b.kind != image::UNBROKEN) & ((b.sub == n) | (b.sup == n))
+    (b.kind != image::format::UNBROKEN) & ((b.sub == n) | (b.sup == n))
 }
 
 // How the graph looks, and its label.
@@ -62,25 +62,25 @@ pub fn draw_label(image: &[u32]) {
 
 // Whether a question is asked, whether one has failed, and the level.
 fn print_state(image: &[u32]) {
-    if word(image, image::STATE_AT) == image::IDLE {
+    if word(image, image::format::STATE_AT) == image::format::IDLE {
         print(b"idle");
     } else {
         print(b"asked");
     }
-    if word(image, image::BREAK_KIND_AT) != image::UNBROKEN {
+    if word(image, image::format::BREAK_KIND_AT) != image::format::UNBROKEN {
         print(b", broken");
     }
-    print_count(b", level ", image, image::LEVEL_AT);
+    print_count(b", level ", image, image::format::LEVEL_AT);
 }
 
 // How many records each region has.
 fn print_counts(image: &[u32]) {
-    print_count(b"\\nentries ", image, image::ENTRIES_COUNT_AT);
-    print_count(b", fields ", image, image::FIELDS_COUNT_AT);
-    print_count(b", bounds ", image, image::BOUNDS_COUNT_AT);
-    print_count(b", visited ", image, image::VISITED_COUNT_AT);
-    print_count(b", pending ", image, image::PENDING_COUNT_AT);
-    print_count(b", equals ", image, image::EQUALS_COUNT_AT);
+    print_count(b"\\nentries ", image, image::format::ENTRIES_COUNT_AT);
+    print_count(b", fields ", image, image::format::FIELDS_COUNT_AT);
+    print_count(b", bounds ", image, image::format::BOUNDS_COUNT_AT);
+    print_count(b", visited ", image, image::format::VISITED_COUNT_AT);
+    print_count(b", pending ", image, image::format::PENDING_COUNT_AT);
+    print_count(b", equals ", image, image::format::EQUALS_COUNT_AT);
 }
 
 // A word, after what it is.

@@ -11,7 +11,7 @@ use telling::print_number;
 
 // Each entry.
 pub fn draw_entries(list: &[u8], image: &[u32]) {
-    let count = word(image, image::ENTRIES_COUNT_AT);
+    let count = word(image, image::format::ENTRIES_COUNT_AT);
     let mut n: u32 = 0;
     while n < count {
         draw_entry(list, image, n);
@@ -107,7 +107,7 @@ fn is_variable(e: Entry) -> bool {
 
 // Whether an entry has the default mark.
 fn is_marked(image: &[u32], n: u32) -> bool {
-    match sheafwinch::record(image, image::ENTRIES, n) {
+    match sheafwinch::record(image, image::format::ENTRIES, n) {
         Record::Entry { flags, .. } => image::says_mark(flags),
         _ => false,
     }

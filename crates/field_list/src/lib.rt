@@ -19,15 +19,15 @@ fn wide(x: u32) -> usize
 pub fn listed(names: u32, fields: &[u32]) -> bool
     ensures { λ r. ⌜ r ≡ fieldsListed names (now (fields .entry)) ⌝ }
 {
-    let n = fields.len() / image::FIELD_WIDTH;
-    let mut ok = fields.len() % image::FIELD_WIDTH == 0;
+    let n = fields.len() / image::format::FIELD_WIDTH;
+    let mut ok = fields.len() % image::format::FIELD_WIDTH == 0;
     let mut least = 0;
     let mut i = 0;
     while i < n {
-        let at = image::FIELD_WIDTH * i;
+        let at = image::format::FIELD_WIDTH * i;
         let name = fields[at];
         let optional = fields[at + 2];
-        ok = ok & ((least <= wide(name)) & (name < names) & (optional <= image::OPTIONAL));
+        ok = ok & ((least <= wide(name)) & (name < names) & (optional <= image::format::OPTIONAL));
         least = wide(name) + 1;
         i += 1;
     }
@@ -38,11 +38,11 @@ pub fn listed(names: u32, fields: &[u32]) -> bool
 pub fn known(count: u32, fields: &[u32]) -> bool
     ensures { λ r. ⌜ r ≡ all (λ f. ltb (f .entry) count) (fieldList (now (fields .entry))) ⌝ }
 {
-    let n = fields.len() / image::FIELD_WIDTH;
+    let n = fields.len() / image::format::FIELD_WIDTH;
     let mut ok = true;
     let mut i = 0;
     while i < n {
-        let at = image::FIELD_WIDTH * i;
+        let at = image::format::FIELD_WIDTH * i;
         let entry = fields[at + 1];
         ok = ok & (entry < count);
         i += 1;

@@ -23,20 +23,22 @@ ghost use Rattle.image.specs.Records.{fieldAt, boundAt};
 ghost use Rattle.formed.specs.Grouped.{headerRight, RegionInside, entryTold, pairOf, ownRight, entryRightIn};
 
 // The regions, as lengths. Region k has its offset, capacity and count at 6, 7 and 8 + 3k.
-const ENTRIES: usize = image::ENTRIES as usize;
+const ENTRIES: usize = image::format::ENTRIES as usize;
 
-const FIELDS: usize = image::FIELDS as usize;
+const FIELDS: usize = image::format::FIELDS as usize;
 
-const BOUNDS: usize = image::BOUNDS as usize;
+const BOUNDS: usize = image::format::BOUNDS as usize;
 
-const VISITED: usize = image::VISITED as usize;
+const VISITED: usize = image::format::VISITED as usize;
 
-const PENDING: usize = image::PENDING as usize;
+const PENDING: usize = image::format::PENDING as usize;
 
-const EQUALS: usize = image::EQUALS as usize;
+const EQUALS: usize = image::format::EQUALS as usize;
 
 // All flags of an attrset.
-const ATTRSET_FLAGS: u32 = image::MARK_FLAG + image::OPEN_FLAG + image::DYNAMIC_FLAG;
+const ATTRSET_FLAGS: u32 = image::format::MARK_FLAG
+    + image::format::OPEN_FLAG
+    + image::format::DYNAMIC_FLAG;
 
 // An entry's words.
 struct EntryWords {
@@ -108,7 +110,7 @@ fn count(image: &[u32], k: usize) -> usize
 fn pending_when_asked(state: u32, pending: u32) -> bool
     ensures { λ r. ⌜ r ≡ cond (eqb state idle) (isZero pending) (leb 1 pending) ⌝ }
 {
-    if state == image::IDLE {
+    if state == image::format::IDLE {
         pending == 0
     } else {
         1 <= pending
@@ -119,14 +121,17 @@ fn pending_when_asked(state: u32, pending: u32) -> bool
 fn header_right(image: &[u32]) -> bool
     ensures { λ r. ⌜ r ≡ headerRight (now (image .entry)) ⌝ }
 {
-    if image.len() < image::HEADER_WORDS {
+    if image.len() < image::format::HEADER_WORDS {
         return false;
     }
-    (image[image::FORMAT_AT] == image::FORMAT)
-        & (image[image::STATE_AT] <= image::ASKED)
-        & pending_when_asked(image[image::STATE_AT], image[image::PENDING_COUNT_AT])
-        & (image[image::NAMES_AT] <= image::NAMES_MOST)
-        & (image[image::FUNCTOR_AT] <= image[image::NAMES_AT])
+    (image[image::format::FORMAT_AT] == image::format::FORMAT)
+        & (image[image::format::STATE_AT] <= image::format::ASKED)
+        & pending_when_asked(
+            image[image::format::STATE_AT],
+            image[image::format::PENDING_COUNT_AT],
+        )
+        & (image[image::format::NAMES_AT] <= image::format::NAMES_MOST)
+        & (image[image::format::FUNCTOR_AT] <= image[image::format::NAMES_AT])
 }
 
 // Whether the regions follow the header without gaps and end at the slice's end, and no count passes its capacity.
@@ -134,20 +139,20 @@ fn regions_right(image: &[u32]) -> bool
     requires { ⌜ headerWords ≤ length (now image) ⌝ }
     ensures { λ r. ⌜ r ≡ regionsRight (regions newest) 1 headerWords (now (image .entry)) ⌝ }
 {
-    let mut at: usize = image::HEADER_WORDS;
+    let mut at: usize = image::format::HEADER_WORDS;
     let mut k: usize = 0;
-    while k < image::REGIONS {
+    while k < image::format::REGIONS {
         let capacity = image[10 + 3 * k];
         if wide(image[9 + 3 * k]) != at {
             return false;
         }
-        if image::MOSTS[k] < capacity {
+        if image::format::MOSTS[k] < capacity {
             return false;
         }
         if capacity < image[11 + 3 * k] {
             return false;
         }
-        at = at + image::WIDTHS[k] * wide(capacity);
+        at = at + image::format::WIDTHS[k] * wide(capacity);
         k += 1;
     }
     at == image.len()
@@ -171,8 +176,8 @@ fn rests_zero(image: &[u32]) -> bool
 {
     let mut ok = true;
     let mut k: usize = 0;
-    while k < image::ROWS {
-        ok = ok & rest_zero(image, k + 1, image::WIDTHS[k]);
+    while k < image::format::ROWS {
+        ok = ok & rest_zero(image, k + 1, image::format::WIDTHS[k]);
         k += 1;
     }
     ok
@@ -183,19 +188,19 @@ fn break_right(image: &[u32]) -> bool
     requires { ⌜ Laid (now image) ⌝ }
     ensures { λ r. ⌜ r ≡ breakRight (storeOf (now (image .entry))) ⌝ }
 {
-    let kind = image[image::BREAK_KIND_AT];
-    let sub = image[image::BREAK_SUB_AT];
-    let sup = image[image::BREAK_SUP_AT];
-    let name = image[image::BREAK_NAME_AT];
-    let entries = image[image::ENTRIES_COUNT_AT];
-    if kind == image::UNBROKEN {
+    let kind = image[image::format::BREAK_KIND_AT];
+    let sub = image[image::format::BREAK_SUB_AT];
+    let sup = image[image::format::BREAK_SUP_AT];
+    let name = image[image::format::BREAK_NAME_AT];
+    let entries = image[image::format::ENTRIES_COUNT_AT];
+    if kind == image::format::UNBROKEN {
         (sub == 0) & (sup == 0) & (name == 0)
-    } else if kind == image::MISMATCHED {
+    } else if kind == image::format::MISMATCHED {
         (sub < entries) & (sup < entries) & (name == 0)
     } else {
         (sub < entries)
             & (sup < entries)
-            & ((kind == image::FIELD_MISSING) & (name < image[image::NAMES_AT]))
+            & ((kind == image::format::FIELD_MISSING) & (name < image[image::format::NAMES_AT]))
     }
 }
 
@@ -206,13 +211,13 @@ fn entry_words(image: &[u32], i: u32) -> EntryWords
     ensures { λ r. ⌜ entryTold r ≡ entryAt (entriesOf (now (image .entry))) i ⌝ }
 {
     EntryWords {
-        kind: image::entry_word(image, i, image::KIND_WORD),
-        x: image::entry_word(image, i, image::X_WORD),
-        y: image::entry_word(image, i, image::Y_WORD),
-        z: image::entry_word(image, i, image::Z_WORD),
-        flags: image::entry_word(image, i, image::FLAGS_WORD),
-        spread: image::entry_word(image, i, image::SPREAD_WORD),
-        negation: image::entry_word(image, i, image::NEGATION_WORD),
+        kind: image::entry_word(image, i, image::format::KIND_WORD),
+        x: image::entry_word(image, i, image::format::X_WORD),
+        y: image::entry_word(image, i, image::format::Y_WORD),
+        z: image::entry_word(image, i, image::format::Z_WORD),
+        flags: image::entry_word(image, i, image::format::FLAGS_WORD),
+        spread: image::entry_word(image, i, image::format::SPREAD_WORD),
+        negation: image::entry_word(image, i, image::format::NEGATION_WORD),
     }
 }
 
@@ -220,34 +225,38 @@ fn entry_words(image: &[u32], i: u32) -> EntryWords
 fn one_component(e: EntryWords) -> bool
     ensures { λ r. ⌜ r ≡ oneComponent (entryTold e) ⌝ }
 {
-    (e.kind == image::LIST) | (e.kind == image::NAMED) | (e.kind == image::NEG)
+    (e.kind == image::format::LIST)
+        | (e.kind == image::format::NAMED)
+        | (e.kind == image::format::NEG)
 }
 
 fn two_components(e: EntryWords) -> bool
     ensures { λ r. ⌜ r ≡ twoComponents (entryTold e) ⌝ }
 {
-    (e.kind == image::LAMBDA) | (e.kind == image::INTER) | (e.kind == image::UNION)
+    (e.kind == image::format::LAMBDA)
+        | (e.kind == image::format::INTER)
+        | (e.kind == image::format::UNION)
 }
 
 // Whether z is a component: an attrset's dynamic type.
 fn has_dynamic_type(e: EntryWords) -> bool
     ensures { λ r. ⌜ r ≡ hasDynamicType (entryTold e) ⌝ }
 {
-    (e.kind == image::ATTRSET) & image::says_dynamic(e.flags)
+    (e.kind == image::format::ATTRSET) & image::says_dynamic(e.flags)
 }
 
 // Whether the kind is one of the nine.
 fn kind_known(e: EntryWords) -> bool
     ensures { λ r. ⌜ r ≡ kindKnown (entryTold e) ⌝ }
 {
-    e.kind <= image::UNION
+    e.kind <= image::format::UNION
 }
 
 // Whether a primitive is one of the eight.
 fn primitive_known(e: EntryWords) -> bool
     ensures { λ r. ⌜ r ≡ primitiveKnown (entryTold e) ⌝ }
 {
-    !(e.kind == image::PRIMITIVE) | (e.x <= image::NUMBER)
+    !(e.kind == image::format::PRIMITIVE) | (e.x <= image::format::NUMBER)
 }
 
 // Whether every component is below its owner, entry i.
@@ -264,19 +273,22 @@ fn components_below(i: u32, e: EntryWords) -> bool
 fn unused_zero(e: EntryWords) -> bool
     ensures { λ r. ⌜ r ≡ unusedZero (entryTold e) ⌝ }
 {
-    (two_components(e) | (e.kind == image::NAMED) | (e.kind == image::ATTRSET) | (e.y == 0))
+    (two_components(e)
+        | (e.kind == image::format::NAMED)
+        | (e.kind == image::format::ATTRSET)
+        | (e.y == 0))
         & (has_dynamic_type(e) | (e.z == 0))
-        & (!((e.kind == image::ATTRSET) & (e.y == 0)) | (e.x == 0))
+        & (!((e.kind == image::format::ATTRSET) & (e.y == 0)) | (e.x == 0))
 }
 
 // Whether no flag is set that the kind does not have.
 fn flags_known(e: EntryWords) -> bool
     ensures { λ r. ⌜ r ≡ flagsKnown (entryTold e) ⌝ }
 {
-    if e.kind == image::ATTRSET {
+    if e.kind == image::format::ATTRSET {
         e.flags <= ATTRSET_FLAGS
     } else {
-        e.flags <= image::MARK_FLAG
+        e.flags <= image::format::MARK_FLAG
     }
 }
 
@@ -285,8 +297,8 @@ fn spread_at(image: &[u32], n: u32) -> usize
     requires { ⌜ Laid (now image) ⌝ }
     ensures { λ r. ⌜ (r ≡ spreadAt (entriesOf (now (image .entry))) n) × (r < wordEnd) ⌝ }
 {
-    if n < image[image::ENTRIES_COUNT_AT] {
-        wide(image::entry_word(image, n, image::SPREAD_WORD))
+    if n < image[image::format::ENTRIES_COUNT_AT] {
+        wide(image::entry_word(image, n, image::format::SPREAD_WORD))
     } else {
         0
     }
@@ -297,9 +309,9 @@ fn spread_of(image: &[u32], kind: u32, x: u32, y: u32) -> usize
     requires { ⌜ Laid (now image) ⌝ }
     ensures { λ r. ⌜ r ≡ spreadOf (entriesOf (now (image .entry))) kind x y ⌝ }
 {
-    if kind <= image::ATTRSET {
+    if kind <= image::format::ATTRSET {
         1
-    } else if kind <= image::NEG {
+    } else if kind <= image::format::NEG {
         1 + spread_at(image, x)
     } else {
         1 + spread_at(image, x) + spread_at(image, y)
@@ -311,7 +323,8 @@ fn spread_right(image: &[u32], e: EntryWords) -> bool
     requires { ⌜ Laid (now image) ⌝ }
     ensures { λ r. ⌜ r ≡ spreadRight (entriesOf (now (image .entry))) (entryTold e) ⌝ }
 {
-    (wide(e.spread) == spread_of(image, e.kind, e.x, e.y)) & (e.spread <= image::SPREAD_MOST)
+    (wide(e.spread) == spread_of(image, e.kind, e.x, e.y))
+        & (e.spread <= image::format::SPREAD_MOST)
 }
 
 // Whether the negation is none, or the number of an entry plus 1.
@@ -319,7 +332,7 @@ fn negation_known(image: &[u32], e: EntryWords) -> bool
     requires { ⌜ Laid (now image) ⌝ }
     ensures { λ r. ⌜ r ≡ negationKnown (entriesOf (now (image .entry))) (entryTold e) ⌝ }
 {
-    e.negation <= image[image::ENTRIES_COUNT_AT]
+    e.negation <= image[image::format::ENTRIES_COUNT_AT]
 }
 
 // Whether so many field records from the first on have strictly ascending names below the name count, and entries below
@@ -329,13 +342,13 @@ fn own_right(image: &[u32], i: u32, first: u32, fields: u32) -> bool
     requires { ⌜ first + fields ≤ length (fieldsIn (now image)) ⌝ }
     ensures { λ r. ⌜ r ≡ ownRight (storeOf (now (image .entry)) .names) i (take fields (drop first (fieldsIn (now (image .entry))))) ⌝ }
 {
-    let names = image[image::NAMES_AT];
+    let names = image[image::format::NAMES_AT];
     let mut ok = true;
     let mut least = 0;
     let mut k = 0;
     while k < fields {
-        let name = image::field_word(image, first + k, image::NAME_WORD);
-        let entry = image::field_word(image, first + k, image::ENTRY_WORD);
+        let name = image::field_word(image, first + k, image::format::NAME_WORD);
+        let entry = image::field_word(image, first + k, image::format::ENTRY_WORD);
         ok = ok & ((least <= wide(name)) & (name < names) & (entry < i));
         least = wide(name) + 1;
         k += 1;
@@ -348,10 +361,10 @@ fn attrset_right(image: &[u32], i: u32, e: EntryWords) -> bool
     requires { ⌜ Laid (now image) ⌝ }
     ensures { λ r. ⌜ r ≡ fieldsRight (fieldsIn (now (image .entry))) (storeOf (now (image .entry)) .names) i (entryTold e) ⌝ }
 {
-    if e.kind != image::ATTRSET {
+    if e.kind != image::format::ATTRSET {
         return true;
     }
-    if wide(image[image::FIELDS_COUNT_AT]) < wide(e.x) + wide(e.y) {
+    if wide(image[image::format::FIELDS_COUNT_AT]) < wide(e.x) + wide(e.y) {
         return false;
     }
     own_right(image, i, e.x, e.y)
@@ -379,7 +392,7 @@ fn entries_right(image: &[u32]) -> bool
     requires { ⌜ Laid (now image) ⌝ }
     ensures { λ r. ⌜ r ≡ allFrom (entryRightIn (now (image .entry))) 0 (entriesOf (now (image .entry))) ⌝ }
 {
-    let n = image[image::ENTRIES_COUNT_AT];
+    let n = image[image::format::ENTRIES_COUNT_AT];
     let mut ok = true;
     let mut i = 0;
     while i < n {
@@ -395,8 +408,9 @@ fn field_right(image: &[u32], i: u32) -> bool
     requires { ⌜ i < length (fieldsIn (now image)) ⌝ }
     ensures { λ r. ⌜ r ≡ fieldRight (entriesOf (now (image .entry))) (fieldAt (fieldsIn (now (image .entry))) i) ⌝ }
 {
-    (image::field_word(image, i, image::ENTRY_WORD) < image[image::ENTRIES_COUNT_AT])
-        & (image::field_word(image, i, image::OPTIONAL_WORD) <= image::OPTIONAL)
+    (image::field_word(image, i, image::format::ENTRY_WORD)
+        < image[image::format::ENTRIES_COUNT_AT])
+        & (image::field_word(image, i, image::format::OPTIONAL_WORD) <= image::format::OPTIONAL)
 }
 
 // Whether every field record is right.
@@ -404,7 +418,7 @@ fn fields_right(image: &[u32]) -> bool
     requires { ⌜ Laid (now image) ⌝ }
     ensures { λ r. ⌜ r ≡ all (fieldRight (entriesOf (now (image .entry)))) (fieldsIn (now (image .entry))) ⌝ }
 {
-    let n = image[image::FIELDS_COUNT_AT];
+    let n = image[image::format::FIELDS_COUNT_AT];
     let mut ok = true;
     let mut i = 0;
     while i < n {
@@ -419,8 +433,8 @@ fn is_variable(image: &[u32], v: u32) -> bool
     requires { ⌜ Laid (now image) ⌝ }
     ensures { λ r. ⌜ r ≡ (isEntry (entriesOf (now (image .entry))) v && isAt (entriesOf (now (image .entry))) variable v) ⌝ }
 {
-    if v < image[image::ENTRIES_COUNT_AT] {
-        image::entry_word(image, v, image::KIND_WORD) == image::VARIABLE
+    if v < image[image::format::ENTRIES_COUNT_AT] {
+        image::entry_word(image, v, image::format::KIND_WORD) == image::format::VARIABLE
     } else {
         false
     }
@@ -432,13 +446,16 @@ fn bound_right(image: &[u32], i: u32) -> bool
     requires { ⌜ i < length (boundsAll (now image)) ⌝ }
     ensures { λ r. ⌜ r ≡ boundRight (entriesOf (now (image .entry))) (boundAt (boundsAll (now (image .entry))) i) ⌝ }
 {
-    if !is_variable(image, image::bound_word(image, i, image::VARIABLE_WORD)) {
+    if !is_variable(
+        image,
+        image::bound_word(image, i, image::format::VARIABLE_WORD),
+    ) {
         return false;
     }
-    if image::UPPER < image::bound_word(image, i, image::SIDE_WORD) {
+    if image::format::UPPER < image::bound_word(image, i, image::format::SIDE_WORD) {
         return false;
     }
-    image::bound_word(image, i, image::BOUND_WORD) < image[image::ENTRIES_COUNT_AT]
+    image::bound_word(image, i, image::format::BOUND_WORD) < image[image::format::ENTRIES_COUNT_AT]
 }
 
 // Whether every bound record is right.
@@ -446,7 +463,7 @@ fn bounds_right(image: &[u32]) -> bool
     requires { ⌜ Laid (now image) ⌝ }
     ensures { λ r. ⌜ r ≡ all (boundRight (entriesOf (now (image .entry)))) (boundsAll (now (image .entry))) ⌝ }
 {
-    let n = image[image::BOUNDS_COUNT_AT];
+    let n = image[image::format::BOUNDS_COUNT_AT];
     let mut i = 0;
     while i < n {
         if !bound_right(image, i) {
@@ -464,7 +481,7 @@ fn pairs_right(image: &[u32], k: usize) -> bool
 {
     let start = offset(image, k);
     let end = start + 2 * count(image, k);
-    below(&image[start..end], image[image::ENTRIES_COUNT_AT])
+    below(&image[start..end], image[image::format::ENTRIES_COUNT_AT])
 }
 
 // Whether every record is right.

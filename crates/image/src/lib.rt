@@ -1,6 +1,8 @@
 // The image over lent words: the numbers of the format and its limits, and the reads, of the header and record by record.
 // specs/Laid.antt says how words are laid out, specs/Shown.antt that they show a table: what changes an image (crates writes and start)
 // says which table its words show.
+pub mod format;
+
 use model::Attrset;
 use model::Dynamic;
 use model::Entry;
@@ -26,235 +28,6 @@ pub struct Capacities {
     pub pending: u32,
     pub equals: u32,
 }
-
-// The numbers of the format and its limits, as in the model's Format: the crates above have them from here.
-
-// Where the header has each word: the first nine, then offset, capacity and count of each region. It has 27.
-pub const FORMAT_AT: usize = 0;
-
-pub const STATE_AT: usize = 1;
-
-pub const BREAK_KIND_AT: usize = 2;
-
-pub const BREAK_SUB_AT: usize = 3;
-
-pub const BREAK_SUP_AT: usize = 4;
-
-pub const BREAK_NAME_AT: usize = 5;
-
-pub const LEVEL_AT: usize = 6;
-
-pub const NAMES_AT: usize = 7;
-
-pub const FUNCTOR_AT: usize = 8;
-
-pub const ENTRIES_OFFSET_AT: usize = 9;
-
-pub const ENTRIES_CAPACITY_AT: usize = 10;
-
-pub const ENTRIES_COUNT_AT: usize = 11;
-
-pub const FIELDS_OFFSET_AT: usize = 12;
-
-pub const FIELDS_CAPACITY_AT: usize = 13;
-
-pub const FIELDS_COUNT_AT: usize = 14;
-
-pub const BOUNDS_OFFSET_AT: usize = 15;
-
-pub const BOUNDS_CAPACITY_AT: usize = 16;
-
-pub const BOUNDS_COUNT_AT: usize = 17;
-
-pub const VISITED_OFFSET_AT: usize = 18;
-
-pub const VISITED_CAPACITY_AT: usize = 19;
-
-pub const VISITED_COUNT_AT: usize = 20;
-
-pub const PENDING_OFFSET_AT: usize = 21;
-
-pub const PENDING_CAPACITY_AT: usize = 22;
-
-pub const PENDING_COUNT_AT: usize = 23;
-
-pub const EQUALS_OFFSET_AT: usize = 24;
-
-pub const EQUALS_CAPACITY_AT: usize = 25;
-
-pub const EQUALS_COUNT_AT: usize = 26;
-
-pub const HEADER_WORDS: usize = 27;
-
-// The format that word 0 says.
-pub const FORMAT: u32 = 1;
-
-// State: idle, asked.
-pub const IDLE: u32 = 0;
-
-pub const ASKED: u32 = 1;
-
-// Break kind: none, mismatch, missing field.
-pub const UNBROKEN: u32 = 0;
-
-pub const MISMATCHED: u32 = 1;
-
-pub const FIELD_MISSING: u32 = 2;
-
-// The regions, by their numbers.
-pub const ENTRIES: u32 = 1;
-
-pub const FIELDS: u32 = 2;
-
-pub const BOUNDS: u32 = 3;
-
-pub const VISITED: u32 = 4;
-
-pub const PENDING: u32 = 5;
-
-pub const EQUALS: u32 = 6;
-
-// The same, as they are counted through.
-pub const IN_ENTRIES: usize = ENTRIES as usize;
-
-pub const IN_FIELDS: usize = FIELDS as usize;
-
-pub const IN_BOUNDS: usize = BOUNDS as usize;
-
-pub const IN_VISITED: usize = VISITED as usize;
-
-pub const IN_PENDING: usize = PENDING as usize;
-
-pub const IN_EQUALS: usize = EQUALS as usize;
-
-// How many regions there are.
-pub const REGIONS: usize = 6;
-
-// How many of them, from the first on, have their records in a row, free ones behind them.
-pub const ROWS: usize = 6;
-
-// Words per record.
-pub const ENTRY_WIDTH: usize = 7;
-
-pub const FIELD_WIDTH: usize = 3;
-
-pub const BOUND_WIDTH: usize = 3;
-
-pub const VISITED_WIDTH: usize = 2;
-
-pub const PENDING_WIDTH: usize = 2;
-
-pub const EQUALS_WIDTH: usize = 2;
-
-// Where an entry has its words.
-pub const KIND_WORD: usize = 0;
-
-pub const X_WORD: usize = 1;
-
-pub const Y_WORD: usize = 2;
-
-pub const Z_WORD: usize = 3;
-
-pub const FLAGS_WORD: usize = 4;
-
-pub const SPREAD_WORD: usize = 5;
-
-pub const NEGATION_WORD: usize = 6;
-
-// Where a field record has its words.
-pub const NAME_WORD: usize = 0;
-
-pub const ENTRY_WORD: usize = 1;
-
-pub const OPTIONAL_WORD: usize = 2;
-
-// Where a bound record has its words.
-pub const VARIABLE_WORD: usize = 0;
-
-pub const SIDE_WORD: usize = 1;
-
-pub const BOUND_WORD: usize = 2;
-
-// Where a visited record has its words, a pending one, and one of equals.
-pub const VISITED_SUB_WORD: usize = 0;
-
-pub const VISITED_SUP_WORD: usize = 1;
-
-pub const PENDING_SUB_WORD: usize = 0;
-
-pub const PENDING_SUP_WORD: usize = 1;
-
-pub const EQUAL_LEFT_WORD: usize = 0;
-
-pub const EQUAL_RIGHT_WORD: usize = 1;
-
-// Kinds.
-pub const VARIABLE: u32 = 0;
-
-pub const PRIMITIVE: u32 = 1;
-
-pub const LIST: u32 = 2;
-
-pub const LAMBDA: u32 = 3;
-
-pub const ATTRSET: u32 = 4;
-
-pub const NAMED: u32 = 5;
-
-pub const NEG: u32 = 6;
-
-pub const INTER: u32 = 7;
-
-pub const UNION: u32 = 8;
-
-// Primitives that the rules name: Int, Float, and the last, Number.
-pub const INT: u32 = 2;
-
-pub const FLOAT: u32 = 3;
-
-pub const NUMBER: u32 = 7;
-
-// Flags: default mark, of any kind; of attrsets also open and dynamic present.
-pub const MARK_FLAG: u32 = 1;
-
-pub const OPEN_FLAG: u32 = 2;
-
-pub const DYNAMIC_FLAG: u32 = 4;
-
-// An optional field; one that is not has 0.
-pub const OPTIONAL: u32 = 1;
-
-// Side: lower, upper.
-pub const LOWER: u32 = 0;
-
-pub const UPPER: u32 = 1;
-
-// Capacity at most.
-pub const ENTRIES_MOST: u32 = 4096;
-
-pub const FIELDS_MOST: u32 = 16384;
-
-pub const BOUNDS_MOST: u32 = 65536;
-
-pub const VISITED_MOST: u32 = 65536;
-
-pub const PENDING_MOST: u32 = 65536;
-
-pub const EQUALS_MOST: u32 = 65536;
-
-// The same, region by region.
-pub const WIDTHS: [usize; 6] = [7, 3, 3, 2, 2, 2];
-
-pub const MOSTS: [u32; 6] = [4096, 16384, 65536, 65536, 65536, 65536];
-
-// At most so many names.
-pub const NAMES_MOST: u32 = 4096;
-
-// Spread is at most this.
-pub const SPREAD_MOST: u32 = 1024;
-
-// Adding a bound scans for a duplicate while the list holds so many or fewer.
-pub const SCAN_MOST: u32 = 32;
 
 // A word is below this.
 const WORD_END: u64 = 4294967296;
@@ -286,84 +59,84 @@ pub fn entries_count(image: &[u32]) -> u32
     requires { ⌜ Laid (now image) ⌝ }
     ensures { λ r. ⌜ r ≡ length (entriesOf (now (image .entry))) ⌝ }
 {
-    count(image, IN_ENTRIES)
+    count(image, format::IN_ENTRIES)
 }
 
 pub fn fields_count(image: &[u32]) -> u32
     requires { ⌜ Laid (now image) ⌝ }
     ensures { λ r. ⌜ r ≡ length (fieldsIn (now (image .entry))) ⌝ }
 {
-    count(image, IN_FIELDS)
+    count(image, format::IN_FIELDS)
 }
 
 pub fn bounds_count(image: &[u32]) -> u32
     requires { ⌜ Laid (now image) ⌝ }
     ensures { λ r. ⌜ r ≡ length (boundsAll (now (image .entry))) ⌝ }
 {
-    count(image, IN_BOUNDS)
+    count(image, format::IN_BOUNDS)
 }
 
 pub fn visited_count(image: &[u32]) -> u32
     requires { ⌜ Laid (now image) ⌝ }
     ensures { λ r. ⌜ r ≡ length (visitedIn (now (image .entry))) ⌝ }
 {
-    count(image, IN_VISITED)
+    count(image, format::IN_VISITED)
 }
 
 pub fn pending_count(image: &[u32]) -> u32
     requires { ⌜ Laid (now image) ⌝ }
     ensures { λ r. ⌜ r ≡ length (pendingIn (now (image .entry))) ⌝ }
 {
-    count(image, IN_PENDING)
+    count(image, format::IN_PENDING)
 }
 
 pub fn equals_count(image: &[u32]) -> u32
     requires { ⌜ Laid (now image) ⌝ }
     ensures { λ r. ⌜ r ≡ length (equalsIn (now (image .entry))) ⌝ }
 {
-    count(image, IN_EQUALS)
+    count(image, format::IN_EQUALS)
 }
 
 pub fn entries_capacity(image: &[u32]) -> u32
     requires { ⌜ Laid (now image) ⌝ }
     ensures { λ r. ⌜ r ≡ storeOf (now (image .entry)) .capacities .entries ⌝ }
 {
-    capacity(image, IN_ENTRIES)
+    capacity(image, format::IN_ENTRIES)
 }
 
 pub fn fields_capacity(image: &[u32]) -> u32
     requires { ⌜ Laid (now image) ⌝ }
     ensures { λ r. ⌜ r ≡ storeOf (now (image .entry)) .capacities .fields ⌝ }
 {
-    capacity(image, IN_FIELDS)
+    capacity(image, format::IN_FIELDS)
 }
 
 pub fn bounds_capacity(image: &[u32]) -> u32
     requires { ⌜ Laid (now image) ⌝ }
     ensures { λ r. ⌜ r ≡ storeOf (now (image .entry)) .capacities .bounds ⌝ }
 {
-    capacity(image, IN_BOUNDS)
+    capacity(image, format::IN_BOUNDS)
 }
 
 pub fn visited_capacity(image: &[u32]) -> u32
     requires { ⌜ Laid (now image) ⌝ }
     ensures { λ r. ⌜ r ≡ storeOf (now (image .entry)) .capacities .visited ⌝ }
 {
-    capacity(image, IN_VISITED)
+    capacity(image, format::IN_VISITED)
 }
 
 pub fn pending_capacity(image: &[u32]) -> u32
     requires { ⌜ Laid (now image) ⌝ }
     ensures { λ r. ⌜ r ≡ storeOf (now (image .entry)) .capacities .pending ⌝ }
 {
-    capacity(image, IN_PENDING)
+    capacity(image, format::IN_PENDING)
 }
 
 pub fn equals_capacity(image: &[u32]) -> u32
     requires { ⌜ Laid (now image) ⌝ }
     ensures { λ r. ⌜ r ≡ storeOf (now (image .entry)) .capacities .equals ⌝ }
 {
-    capacity(image, IN_EQUALS)
+    capacity(image, format::IN_EQUALS)
 }
 
 // The rest of the header: how many names there are, the functor word, the current level and the break.
@@ -371,49 +144,49 @@ pub fn name_count(image: &[u32]) -> u32
     requires { ⌜ Laid (now image) ⌝ }
     ensures { λ r. ⌜ r ≡ storeOf (now (image .entry)) .names ⌝ }
 {
-    image[NAMES_AT]
+    image[format::NAMES_AT]
 }
 
 pub fn functor(image: &[u32]) -> u32
     requires { ⌜ Laid (now image) ⌝ }
     ensures { λ r. ⌜ r ≡ storeOf (now (image .entry)) .functor ⌝ }
 {
-    image[FUNCTOR_AT]
+    image[format::FUNCTOR_AT]
 }
 
 pub fn level(image: &[u32]) -> u32
     requires { ⌜ Laid (now image) ⌝ }
     ensures { λ r. ⌜ r ≡ storeOf (now (image .entry)) .level ⌝ }
 {
-    image[LEVEL_AT]
+    image[format::LEVEL_AT]
 }
 
 pub fn break_kind(image: &[u32]) -> u32
     requires { ⌜ Laid (now image) ⌝ }
     ensures { λ r. ⌜ r ≡ storeOf (now (image .entry)) .broken .kind ⌝ }
 {
-    image[BREAK_KIND_AT]
+    image[format::BREAK_KIND_AT]
 }
 
 pub fn break_sub(image: &[u32]) -> u32
     requires { ⌜ Laid (now image) ⌝ }
     ensures { λ r. ⌜ r ≡ storeOf (now (image .entry)) .broken .sub ⌝ }
 {
-    image[BREAK_SUB_AT]
+    image[format::BREAK_SUB_AT]
 }
 
 pub fn break_sup(image: &[u32]) -> u32
     requires { ⌜ Laid (now image) ⌝ }
     ensures { λ r. ⌜ r ≡ storeOf (now (image .entry)) .broken .sup ⌝ }
 {
-    image[BREAK_SUP_AT]
+    image[format::BREAK_SUP_AT]
 }
 
 pub fn break_name(image: &[u32]) -> u32
     requires { ⌜ Laid (now image) ⌝ }
     ensures { λ r. ⌜ r ≡ storeOf (now (image .entry)) .broken .name ⌝ }
 {
-    image[BREAK_NAME_AT]
+    image[format::BREAK_NAME_AT]
 }
 
 // Word j of entry i.
@@ -423,7 +196,7 @@ pub fn entry_word(image: &[u32], i: u32, j: usize) -> u32
     requires { ⌜ j < entryWidth ⌝ }
     ensures { λ r. ⌜ r ≡ word (entryWords (entryAt (entriesOf (now (image .entry))) i)) j ⌝ }
 {
-    image[HEADER_WORDS + ENTRY_WIDTH * wide(i) + j]
+    image[format::HEADER_WORDS + format::ENTRY_WIDTH * wide(i) + j]
 }
 
 // Word j of record i of a region, whose records are so wide.
@@ -442,7 +215,7 @@ pub fn field_word(image: &[u32], i: u32, j: usize) -> u32
     requires { ⌜ j < fieldWidth ⌝ }
     ensures { λ r. ⌜ r ≡ word (fieldWords (fieldAt (fieldsIn (now (image .entry))) i)) j ⌝ }
 {
-    record_word(image, IN_FIELDS, FIELD_WIDTH, i, j)
+    record_word(image, format::IN_FIELDS, format::FIELD_WIDTH, i, j)
 }
 
 pub fn bound_word(image: &[u32], i: u32, j: usize) -> u32
@@ -451,7 +224,7 @@ pub fn bound_word(image: &[u32], i: u32, j: usize) -> u32
     requires { ⌜ j < boundWidth ⌝ }
     ensures { λ r. ⌜ r ≡ word (boundWords (boundAt (boundsAll (now (image .entry))) i)) j ⌝ }
 {
-    record_word(image, IN_BOUNDS, BOUND_WIDTH, i, j)
+    record_word(image, format::IN_BOUNDS, format::BOUND_WIDTH, i, j)
 }
 
 pub fn visited_word(image: &[u32], i: u32, j: usize) -> u32
@@ -460,7 +233,7 @@ pub fn visited_word(image: &[u32], i: u32, j: usize) -> u32
     requires { ⌜ j < visitedWidth ⌝ }
     ensures { λ r. ⌜ r ≡ word (visitedWords (visitedAt (visitedIn (now (image .entry))) i)) j ⌝ }
 {
-    record_word(image, IN_VISITED, VISITED_WIDTH, i, j)
+    record_word(image, format::IN_VISITED, format::VISITED_WIDTH, i, j)
 }
 
 pub fn pending_word(image: &[u32], i: u32, j: usize) -> u32
@@ -469,7 +242,7 @@ pub fn pending_word(image: &[u32], i: u32, j: usize) -> u32
     requires { ⌜ j < pendingWidth ⌝ }
     ensures { λ r. ⌜ r ≡ word (pendingWords (pendingAt (pendingIn (now (image .entry))) i)) j ⌝ }
 {
-    record_word(image, IN_PENDING, PENDING_WIDTH, i, j)
+    record_word(image, format::IN_PENDING, format::PENDING_WIDTH, i, j)
 }
 
 pub fn equal_word(image: &[u32], i: u32, j: usize) -> u32
@@ -478,26 +251,26 @@ pub fn equal_word(image: &[u32], i: u32, j: usize) -> u32
     requires { ⌜ j < equalsWidth ⌝ }
     ensures { λ r. ⌜ r ≡ word (equalWords (equalAt (equalsIn (now (image .entry))) i)) j ⌝ }
 {
-    record_word(image, IN_EQUALS, EQUALS_WIDTH, i, j)
+    record_word(image, format::IN_EQUALS, format::EQUALS_WIDTH, i, j)
 }
 
 // Whether these flags say marked, whether they say open, and whether they say that there is a dynamic type.
 pub fn says_mark(flags: u32) -> bool
     ensures { λ r. ⌜ r ≡ saysMark flags ⌝ }
 {
-    flags / MARK_FLAG % 2 == 1
+    flags / format::MARK_FLAG % 2 == 1
 }
 
 pub fn says_open(flags: u32) -> bool
     ensures { λ r. ⌜ r ≡ saysOpen flags ⌝ }
 {
-    flags / OPEN_FLAG % 2 == 1
+    flags / format::OPEN_FLAG % 2 == 1
 }
 
 pub fn says_dynamic(flags: u32) -> bool
     ensures { λ r. ⌜ r ≡ saysDynamic flags ⌝ }
 {
-    flags / DYNAMIC_FLAG % 2 == 1
+    flags / format::DYNAMIC_FLAG % 2 == 1
 }
 
 // The dynamic type that the flags and z of an attrset tell.
@@ -531,11 +304,11 @@ pub fn entry(image: &[u32], i: u32) -> Entry
     requires { ⌜ i < length (entriesOf (now image)) ⌝ }
     ensures { λ r. ⌜ r ≡ readOut (entryAt (entriesOf (now (image .entry))) i) ⌝ }
 {
-    let kind = entry_word(image, i, KIND_WORD);
-    let x = entry_word(image, i, X_WORD);
-    let y = entry_word(image, i, Y_WORD);
-    let z = entry_word(image, i, Z_WORD);
-    let flags = entry_word(image, i, FLAGS_WORD);
+    let kind = entry_word(image, i, format::KIND_WORD);
+    let x = entry_word(image, i, format::X_WORD);
+    let y = entry_word(image, i, format::Y_WORD);
+    let z = entry_word(image, i, format::Z_WORD);
+    let flags = entry_word(image, i, format::FLAGS_WORD);
     match kind {
         0 => Entry::Variable { level: x },
         1 => Entry::Primitive(x),
@@ -554,7 +327,7 @@ pub fn is_asked(image: &[u32]) -> bool
     requires { ⌜ Shown (now image) ⌝ }
     ensures { λ r. ⌜ r ≡ isAsked (table (now (image .entry))) ⌝ }
 {
-    image[STATE_AT] != IDLE
+    image[format::STATE_AT] != format::IDLE
 }
 
 // Two words as one number.
@@ -585,7 +358,7 @@ pub fn visited_has(image: &[u32], sub: u32, sup: u32) -> bool
     requires { ⌜ Laid (now image) ⌝ }
     ensures { λ r. ⌜ r ≡ isVisited (storeOf (now (image .entry))) (sub ⊑ sup) ⌝ }
 {
-    let at = wide(image[VISITED_OFFSET_AT]);
-    let n = wide(image[VISITED_COUNT_AT]);
+    let at = wide(image[format::VISITED_OFFSET_AT]);
+    let n = wide(image[format::VISITED_COUNT_AT]);
     has_pair(&image[at..], n, sub, sup)
 }

@@ -40,13 +40,13 @@ fn room_for(image: &[u32], q: Question) -> Reply
     ensures { λ r. ⌜ Roomy (now (image .entry)) q r ⌝ }
 {
     if image::pending_capacity(image) < pairs_of(q) {
-        return Reply::Refused(Refusal::NoRoom(image::PENDING));
+        return Reply::Refused(Refusal::NoRoom(image::format::PENDING));
     }
     if !is_recorded(q) {
         return Reply::Done;
     }
     if image::equals_capacity(image) <= image::equals_count(image) {
-        return Reply::Refused(Refusal::NoRoom(image::EQUALS));
+        return Reply::Refused(Refusal::NoRoom(image::format::EQUALS));
     }
     Reply::Done
 }
@@ -60,7 +60,7 @@ fn fitness(image: &[u32], q: Question) -> Reply
         return Reply::Refused(Refusal::Busy);
     }
     let kind = image::break_kind(image);
-    if q.held & (kind != image::UNBROKEN) {
+    if q.held & (kind != image::format::UNBROKEN) {
         let sub = image::break_sub(image);
         let sup = image::break_sup(image);
         let name = image::break_name(image);

@@ -46,13 +46,13 @@ fn entry_record(image: &[u32], n: u32) -> Record
     if image::entries_count(image) <= n {
         return Record::Refused(Refusal::BadNumber);
     }
-    let kind_word = image::entry_word(image, n, image::KIND_WORD);
-    let x_word = image::entry_word(image, n, image::X_WORD);
-    let y_word = image::entry_word(image, n, image::Y_WORD);
-    let z_word = image::entry_word(image, n, image::Z_WORD);
-    let flags_word = image::entry_word(image, n, image::FLAGS_WORD);
-    let spread_word = image::entry_word(image, n, image::SPREAD_WORD);
-    let negation_word = image::entry_word(image, n, image::NEGATION_WORD);
+    let kind_word = image::entry_word(image, n, image::format::KIND_WORD);
+    let x_word = image::entry_word(image, n, image::format::X_WORD);
+    let y_word = image::entry_word(image, n, image::format::Y_WORD);
+    let z_word = image::entry_word(image, n, image::format::Z_WORD);
+    let flags_word = image::entry_word(image, n, image::format::FLAGS_WORD);
+    let spread_word = image::entry_word(image, n, image::format::SPREAD_WORD);
+    let negation_word = image::entry_word(image, n, image::format::NEGATION_WORD);
     Record::Entry {
         kind: kind_word,
         x: x_word,
@@ -72,9 +72,9 @@ fn field_record(image: &[u32], n: u32) -> Record
     if image::fields_count(image) <= n {
         return Record::Refused(Refusal::BadNumber);
     }
-    let name_word = image::field_word(image, n, image::NAME_WORD);
-    let entry_word = image::field_word(image, n, image::ENTRY_WORD);
-    let optional_word = image::field_word(image, n, image::OPTIONAL_WORD);
+    let name_word = image::field_word(image, n, image::format::NAME_WORD);
+    let entry_word = image::field_word(image, n, image::format::ENTRY_WORD);
+    let optional_word = image::field_word(image, n, image::format::OPTIONAL_WORD);
     Record::Field {
         name: name_word,
         entry: entry_word,
@@ -90,9 +90,9 @@ fn bound_record(image: &[u32], n: u32) -> Record
     if image::bounds_count(image) <= n {
         return Record::Refused(Refusal::BadNumber);
     }
-    let variable_word = image::bound_word(image, n, image::VARIABLE_WORD);
-    let side_word = image::bound_word(image, n, image::SIDE_WORD);
-    let bound_word = image::bound_word(image, n, image::BOUND_WORD);
+    let variable_word = image::bound_word(image, n, image::format::VARIABLE_WORD);
+    let side_word = image::bound_word(image, n, image::format::SIDE_WORD);
+    let bound_word = image::bound_word(image, n, image::format::BOUND_WORD);
     Record::Bound {
         variable: variable_word,
         side: side_word,
@@ -108,8 +108,8 @@ fn visited_record(image: &[u32], n: u32) -> Record
     if image::visited_count(image) <= n {
         return Record::Refused(Refusal::BadNumber);
     }
-    let sub_word = image::visited_word(image, n, image::VISITED_SUB_WORD);
-    let sup_word = image::visited_word(image, n, image::VISITED_SUP_WORD);
+    let sub_word = image::visited_word(image, n, image::format::VISITED_SUB_WORD);
+    let sup_word = image::visited_word(image, n, image::format::VISITED_SUP_WORD);
     Record::Visited {
         sub: sub_word,
         sup: sup_word,
@@ -124,8 +124,8 @@ fn pending_record(image: &[u32], n: u32) -> Record
     if image::pending_count(image) <= n {
         return Record::Refused(Refusal::BadNumber);
     }
-    let sub_word = image::pending_word(image, n, image::PENDING_SUB_WORD);
-    let sup_word = image::pending_word(image, n, image::PENDING_SUP_WORD);
+    let sub_word = image::pending_word(image, n, image::format::PENDING_SUB_WORD);
+    let sup_word = image::pending_word(image, n, image::format::PENDING_SUP_WORD);
     Record::Pending {
         sub: sub_word,
         sup: sup_word,
@@ -140,8 +140,8 @@ fn equal_record(image: &[u32], n: u32) -> Record
     if image::equals_count(image) <= n {
         return Record::Refused(Refusal::BadNumber);
     }
-    let left_word = image::equal_word(image, n, image::EQUAL_LEFT_WORD);
-    let right_word = image::equal_word(image, n, image::EQUAL_RIGHT_WORD);
+    let left_word = image::equal_word(image, n, image::format::EQUAL_LEFT_WORD);
+    let right_word = image::equal_word(image, n, image::format::EQUAL_RIGHT_WORD);
     Record::Equal {
         left: left_word,
         right: right_word,

@@ -13,12 +13,12 @@ use crate::tally::VISITED_LINES;
 use crate::tally::add;
 use crate::tally::expect;
 use crate::tally::refuse;
-use image::ATTRSET;
-use image::BOUNDS;
-use image::ENTRIES;
-use image::EQUALS;
-use image::FIELDS;
-use image::VISITED;
+use image::format::ATTRSET;
+use image::format::BOUNDS;
+use image::format::ENTRIES;
+use image::format::EQUALS;
+use image::format::FIELDS;
+use image::format::VISITED;
 use model::Record;
 
 // The kind of no entry.
@@ -122,19 +122,19 @@ fn counted(words: &[u32], tally: &mut [u32; 96], entries: u32, bounds: u32, visi
         tally,
         b"entries",
         entries,
-        word(words, image::ENTRIES_COUNT_AT),
+        word(words, image::format::ENTRIES_COUNT_AT),
     );
     expect(
         tally,
         b"bounds",
         bounds,
-        word(words, image::BOUNDS_COUNT_AT),
+        word(words, image::format::BOUNDS_COUNT_AT),
     );
     expect(
         tally,
         b"visited pairs",
         visited,
-        word(words, image::VISITED_COUNT_AT),
+        word(words, image::format::VISITED_COUNT_AT),
     );
 }
 
@@ -159,12 +159,17 @@ fn level(words: &[u32], tally: &mut [u32; 96], line: &[u32; 32]) {
     tally[VISITED_LINES] = 0;
     tally[EQUAL_LINES] = 0;
     tally[BOUND_NEXT] = 0;
-    expect(tally, b"level", line[0], word(words, image::LEVEL_AT));
+    expect(
+        tally,
+        b"level",
+        line[0],
+        word(words, image::format::LEVEL_AT),
+    );
     expect(
         tally,
         b"entries",
         line[1],
-        word(words, image::ENTRIES_COUNT_AT),
+        word(words, image::format::ENTRIES_COUNT_AT),
     );
 }
 
@@ -301,19 +306,27 @@ fn end(words: &[u32], tally: &mut [u32; 96]) {
         tally,
         b"equal pairs",
         equals,
-        word(words, image::EQUALS_COUNT_AT),
+        word(words, image::format::EQUALS_COUNT_AT),
     );
     expect(
         tally,
         b"pending pairs",
         0,
-        word(words, image::PENDING_COUNT_AT),
+        word(words, image::format::PENDING_COUNT_AT),
     );
     add_records(words, tally);
 }
 
 // Counts the records of all scripts.
 fn add_records(words: &[u32], tally: &mut [u32; 96]) {
-    add(tally, tally::BOUNDS, word(words, image::BOUNDS_COUNT_AT));
-    add(tally, tally::VISITED, word(words, image::VISITED_COUNT_AT));
+    add(
+        tally,
+        tally::BOUNDS,
+        word(words, image::format::BOUNDS_COUNT_AT),
+    );
+    add(
+        tally,
+        tally::VISITED,
+        word(words, image::format::VISITED_COUNT_AT),
+    );
 }

@@ -73,11 +73,11 @@ fn mark(words: &mut [u32], tally: &mut [u32; 96], n: u32) {
 
 // Puts a bound, and counts it if it is new.
 fn put_bound(words: &mut [u32], tally: &mut [u32; 96], line: &[u32; 32]) {
-    let before = word(words, image::BOUNDS_COUNT_AT);
+    let before = word(words, image::format::BOUNDS_COUNT_AT);
     done(
         tally,
         sheafwinch::put_bound(words, line[0], line[1], line[2]),
     );
-    let after = word(words, image::BOUNDS_COUNT_AT);
+    let after = word(words, image::format::BOUNDS_COUNT_AT);
     add(tally, BOUNDS_PUT, std::num::wrapping_sub_u32(after, before));
 }

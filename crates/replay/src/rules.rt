@@ -5,17 +5,17 @@ use crate::dumped::read_entry;
 use crate::dumped::read_record;
 use crate::tables::word;
 use crate::tally::add;
-use image::ATTRSET;
-use image::FIELDS;
-use image::FLOAT;
-use image::INT;
-use image::INTER;
-use image::LAMBDA;
-use image::NAMED;
-use image::NEG;
-use image::NUMBER;
-use image::UNION;
-use image::VARIABLE;
+use image::format::ATTRSET;
+use image::format::FIELDS;
+use image::format::FLOAT;
+use image::format::INT;
+use image::format::INTER;
+use image::format::LAMBDA;
+use image::format::NAMED;
+use image::format::NEG;
+use image::format::NUMBER;
+use image::format::UNION;
+use image::format::VARIABLE;
 use model::Disjointness;
 
 // What is looked for through components: a variable, an entry that is disjoint from another, a member; and how deep.
@@ -398,7 +398,7 @@ fn is_functor(words: &[u32], a: Node, b: Node) -> bool {
     if b.kind != LAMBDA {
         return false;
     }
-    let functor = word(words, image::FUNCTOR_AT);
+    let functor = word(words, image::format::FUNCTOR_AT);
     if functor == 0 {
         return false;
     }
@@ -446,7 +446,7 @@ fn field_met(words: &[u32], a: Node, n: u32) -> usize {
     if image::says_open(a.flags) {
         return FIELD_OPEN;
     }
-    if field.c == image::OPTIONAL {
+    if field.c == image::format::OPTIONAL {
         FIELD_OPTIONAL
     } else {
         FIELD_MISSING

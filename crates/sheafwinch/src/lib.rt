@@ -53,7 +53,7 @@ pub fn make_list(image: &mut [u32], element: u32) -> Made
 {
     match formed::admit(image) {
         Admission::Unfit(r) => Made::Refused(r),
-        Admission::Good => changes::one_in(image, image::LIST, element, 0),
+        Admission::Good => changes::one_in(image, image::format::LIST, element, 0),
     }
 }
 
@@ -64,7 +64,7 @@ pub fn make_named(image: &mut [u32], inner: u32, label: u32) -> Made
 {
     match formed::admit(image) {
         Admission::Unfit(r) => Made::Refused(r),
-        Admission::Good => changes::one_in(image, image::NAMED, inner, label),
+        Admission::Good => changes::one_in(image, image::format::NAMED, inner, label),
     }
 }
 
@@ -75,7 +75,7 @@ pub fn make_lambda(image: &mut [u32], param: u32, body: u32) -> Made
 {
     match formed::admit(image) {
         Admission::Unfit(r) => Made::Refused(r),
-        Admission::Good => changes::two_in(image, image::LAMBDA, param, body),
+        Admission::Good => changes::two_in(image, image::format::LAMBDA, param, body),
     }
 }
 
@@ -86,7 +86,7 @@ pub fn make_inter(image: &mut [u32], left: u32, right: u32) -> Made
 {
     match formed::admit(image) {
         Admission::Unfit(r) => Made::Refused(r),
-        Admission::Good => changes::two_in(image, image::INTER, left, right),
+        Admission::Good => changes::two_in(image, image::format::INTER, left, right),
     }
 }
 
@@ -97,7 +97,7 @@ pub fn make_union(image: &mut [u32], left: u32, right: u32) -> Made
 {
     match formed::admit(image) {
         Admission::Unfit(r) => Made::Refused(r),
-        Admission::Good => changes::two_in(image, image::UNION, left, right),
+        Admission::Good => changes::two_in(image, image::format::UNION, left, right),
     }
 }
 

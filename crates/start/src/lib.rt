@@ -22,8 +22,8 @@ fn all_small(sizes: &[u32]) -> bool
 {
     let mut ok = true;
     let mut k: usize = 0;
-    while k < image::REGIONS {
-        ok = ok & (sizes[k] <= image::MOSTS[k]);
+    while k < image::format::REGIONS {
+        ok = ok & (sizes[k] <= image::format::MOSTS[k]);
         k += 1;
     }
     ok
@@ -35,10 +35,10 @@ fn size_of(sizes: &[u32]) -> usize
     requires { ⌜ T (allSmall (regions newest) (now sizes)) ⌝ }
     ensures { λ r. ⌜ r ≡ headerWords + sizeOf (regions newest) (now (sizes .entry)) ⌝ }
 {
-    let mut at: usize = image::HEADER_WORDS;
+    let mut at: usize = image::format::HEADER_WORDS;
     let mut k: usize = 0;
-    while k < image::REGIONS {
-        at = at + image::WIDTHS[k] * image::wide(sizes[k]);
+    while k < image::format::REGIONS {
+        at = at + image::format::WIDTHS[k] * image::wide(sizes[k]);
         k += 1;
     }
     at
@@ -60,9 +60,9 @@ fn put_front(image: &mut [u32], names: u32, functor: u32)
     requires { ⌜ headerWords ≤ length (now image) ⌝ }
     ensures { λ _. ⌜ now (image .exit) ≡ set (set (set (now (image .entry)) formatAt formatWord) namesAt names) functorAt functor ⌝ }
 {
-    image[image::FORMAT_AT] = image::FORMAT;
-    image[image::NAMES_AT] = names;
-    image[image::FUNCTOR_AT] = functor;
+    image[image::format::FORMAT_AT] = image::format::FORMAT;
+    image[image::format::NAMES_AT] = names;
+    image[image::format::FUNCTOR_AT] = functor;
 }
 
 // Writes region k's words of the header, k counted from 0: its offset, its capacity, and the count 0.
@@ -71,7 +71,7 @@ fn put_region(image: &mut [u32], k: usize, offset: u32, capacity: u32)
     ensures { λ _. ⌜ now (image .exit) ≡ sets (now (image .entry)) (9 + 3 * k) (offset ∷ capacity ∷ 0 ∷ []) ⌝ }
 {
     let row = [offset, capacity, 0];
-    let at = image::ENTRIES_OFFSET_AT;
+    let at = image::format::ENTRIES_OFFSET_AT;
     writes::put_row(&mut image[at..], 3 * k, &row);
 }
 
@@ -83,11 +83,11 @@ fn put_header(image: &mut [u32], names: u32, functor: u32, sizes: &[u32])
     ensures { λ _. ⌜ now (image .exit) ≡ headedFrom 1 headerWords (regions newest) (now (sizes .entry)) (set (set (set (now (image .entry)) formatAt formatWord) namesAt names) functorAt functor) ⌝ }
 {
     put_front(image, names, functor);
-    let mut at: usize = image::HEADER_WORDS;
+    let mut at: usize = image::format::HEADER_WORDS;
     let mut k: usize = 0;
-    while k < image::REGIONS {
+    while k < image::format::REGIONS {
         put_region(image, k, at as u32, sizes[k]);
-        at = at + image::WIDTHS[k] * image::wide(sizes[k]);
+        at = at + image::format::WIDTHS[k] * image::wide(sizes[k]);
         k += 1;
     }
 }
@@ -100,7 +100,7 @@ fn capacities_right(image: &[u32], names: u32, functor: u32, sizes: &[u32]) -> b
     if !all_small(sizes) {
         return false;
     }
-    (size_of(sizes) == image.len()) & (names <= image::NAMES_MOST) & (functor <= names)
+    (size_of(sizes) == image.len()) & (names <= image::format::NAMES_MOST) & (functor <= names)
 }
 
 // Starts an image: idle, at level 0, with nothing in its regions. A refusal leaves every word as found.

@@ -73,11 +73,11 @@ fn room_for(image: &[u32], more: u32) -> StepRoom
     ensures { λ r. ⌜ RoomFor (now (image .entry)) (storeOf (now (image .entry))) more r ⌝ }
 {
     if image::visited_capacity(image) <= image::visited_count(image) {
-        return StepRoom::Lacks(Refusal::NoRoom(image::VISITED));
+        return StepRoom::Lacks(Refusal::NoRoom(image::format::VISITED));
     }
     let others = image::pending_count(image) - 1;
     if image::pending_capacity(image) - others < more {
-        return StepRoom::Lacks(Refusal::NoRoom(image::PENDING));
+        return StepRoom::Lacks(Refusal::NoRoom(image::format::PENDING));
     }
     StepRoom::Enough
 }
@@ -87,13 +87,19 @@ fn fill_break(image: &mut [u32], failure: Failure)
     requires { ⌜ Shown (now image) ⌝ }
     ensures { λ _. ⌜ Shows (now (image .exit)) (tableOf (fillBreak failure (storeOf (now (image .entry)))) (pendingIn (now (image .entry)))) ⌝ }
 {
-    if image::break_kind(image) != image::UNBROKEN {
+    if image::break_kind(image) != image::format::UNBROKEN {
         return;
     }
     match failure {
-        Failure::Mismatch { sub, sup } => writes::put_break(image, image::MISMATCHED, sub, sup, 0),
+        Failure::Mismatch { sub, sup } => writes::put_break(
+            image,
+            image::format::MISMATCHED,
+            sub,
+            sup,
+            0,
+        ),
         Failure::MissingField { sub, sup, name } => {
-            writes::put_break(image, image::FIELD_MISSING, sub, sup, name)
+            writes::put_break(image, image::format::FIELD_MISSING, sub, sup, name)
         }
     }
 }
@@ -125,7 +131,7 @@ fn put_field_pair(image: &mut [u32], a: Attrset, j: u32)
 {
     let ask = constrain::asks(image, a, j);
     if let FieldAsk::Under(x) = ask {
-        let entry = image::field_word(image, j, image::ENTRY_WORD);
+        let entry = image::field_word(image, j, image::format::ENTRY_WORD);
         writes::put_consequence(image, x, entry);
     }
 }
@@ -228,9 +234,9 @@ fn make_target(image: &mut [u32], sup: u32, d: u32) -> Negated
         return Negated::Full;
     }
     let spread = 1
-        + image::entry_word(image, sup, image::SPREAD_WORD)
-        + image::entry_word(image, n, image::SPREAD_WORD);
-    writes::push_entry(image, image::UNION, sup, n, 0, 0, spread);
+        + image::entry_word(image, sup, image::format::SPREAD_WORD)
+        + image::entry_word(image, n, image::format::SPREAD_WORD);
+    writes::push_entry(image, image::format::UNION, sup, n, 0, 0, spread);
     Negated::Number(number)
 }
 
@@ -243,7 +249,7 @@ fn is_deep(image: &[u32], old: u32) -> bool
 {
     let mut i = old;
     while i < image::entries_count(image) {
-        if image::SPREAD_MOST < image::entry_word(image, i, image::SPREAD_WORD) {
+        if image::format::SPREAD_MOST < image::entry_word(image, i, image::format::SPREAD_WORD) {
             return true;
         }
         i += 1;
@@ -262,7 +268,7 @@ fn settle(image: &mut [u32], old: u32, sub: u32, sup: u32, c: u32, target: u32) 
 {
     if image::visited_capacity(image) <= image::visited_count(image) {
         type_table::undo(image, old);
-        return Step::Refused(Refusal::NoRoom(image::VISITED));
+        return Step::Refused(Refusal::NoRoom(image::format::VISITED));
     }
     if is_deep(image, old) {
         type_table::undo(image, old);
@@ -286,7 +292,7 @@ fn follow_isolated(image: &mut [u32], sub: u32, sup: u32, c: u32, d: u32) -> Ste
     let old = image::entries_count(image);
     let Negated::Number(target) = make_target(image, sup, d) else {
         type_table::undo(image, old);
-        return Step::Refused(Refusal::NoRoom(image::ENTRIES)); // however deep it would go
+        return Step::Refused(Refusal::NoRoom(image::format::ENTRIES)); // however deep it would go
     };
     settle(image, old, sub, sup, c, target)
 }
@@ -300,10 +306,10 @@ fn follow_functor(image: &mut [u32], sub: u32, sup: u32, f: u32, param: u32, bod
 {
     let old = image::entries_count(image);
     if image::entries_capacity(image) - old < 2 {
-        return Step::Refused(Refusal::NoRoom(image::ENTRIES));
+        return Step::Refused(Refusal::NoRoom(image::format::ENTRIES));
     }
-    writes::push_entry(image, image::LAMBDA, param, body, 0, 0, 1);
-    writes::push_entry(image, image::LAMBDA, sub, old, 0, 0, 1);
+    writes::push_entry(image, image::format::LAMBDA, param, body, 0, 0, 1);
+    writes::push_entry(image, image::format::LAMBDA, sub, old, 0, 0, 1);
     settle(image, old, sub, sup, f, old + 1)
 }
 
@@ -317,7 +323,7 @@ fn room_for_bound(image: &[u32], repeated: bool, more: u32) -> StepRoom
         return room_for(image, more);
     }
     if image::bounds_capacity(image) <= image::bounds_count(image) {
-        return StepRoom::Lacks(Refusal::NoRoom(image::BOUNDS));
+        return StepRoom::Lacks(Refusal::NoRoom(image::format::BOUNDS));
     }
     room_for(image, more)
 }
@@ -341,13 +347,13 @@ fn pass_mark(image: &mut [u32], v: u32, side: u32, b: u32)
     requires { ⌜ b < length (entriesOf (now image)) ⌝ }
     ensures { λ _. ⌜ Shows (now (image .exit)) (entriesTo (now (image .entry)) (passMark v side b (entriesOf (now (image .entry))))) ⌝ }
 {
-    if side != image::UPPER {
+    if side != image::format::UPPER {
         return;
     }
-    if image::entry_word(image, b, image::KIND_WORD) != image::VARIABLE {
+    if image::entry_word(image, b, image::format::KIND_WORD) != image::format::VARIABLE {
         return;
     }
-    if image::says_mark(image::entry_word(image, v, image::FLAGS_WORD)) {
+    if image::says_mark(image::entry_word(image, v, image::format::FLAGS_WORD)) {
         writes::put_mark(image, b);
     }
 }
@@ -358,7 +364,7 @@ fn put_bound_pair(image: &mut [u32], side: u32, x: u32, b: u32)
     requires { ⌜ length (pendingIn (now image)) < storeOf (now image) .capacities .pending ⌝ }
     ensures { λ _. ⌜ Midway (now (image .exit)) (pendingTo (now (image .entry)) (pendingIn (now (image .entry)) ++ (boundPair side b x ∷ []))) ⌝ }
 {
-    if side == image::LOWER {
+    if side == image::format::LOWER {
         writes::put_consequence(image, x, b);
     } else {
         writes::put_consequence(image, b, x);
@@ -375,7 +381,7 @@ fn put_bound_pairs(image: &mut [u32], v: u32, side: u32, b: u32)
     while 0 < i {
         i -= 1;
         if storage::belongs(image, i, v, side) {
-            let x = image::bound_word(image, i, image::BOUND_WORD);
+            let x = image::bound_word(image, i, image::format::BOUND_WORD);
             put_bound_pair(image, side, x, b);
         }
     }
@@ -391,7 +397,7 @@ fn join_bounds(image: &mut [u32], sub: u32, sup: u32, v: u32, side: u32, b: u32)
     ensures { λ r. ⌜ r ≡ taken (now (image .entry)) (outcomeOf (visit (sub ⊑ sup) (storeOf (now (image .entry)))) (sub ⊑ sup) (joinBounds (graphIn (now (image .entry))) v side b)) .says ⌝ }
     ensures { λ _. ⌜ now (image .exit) ≡ taken (now (image .entry)) (outcomeOf (visit (sub ⊑ sup) (storeOf (now (image .entry)))) (sub ⊑ sup) (joinBounds (graphIn (now (image .entry))) v side b)) .words ⌝ }
 {
-    let other = image::UPPER - side;
+    let other = image::format::UPPER - side;
     let n = image::bounds_count(image);
     let repeated = storage::repeats_bound(image, n, v, side, b);
     let more = storage::count_bounds(image, n, v, other);
@@ -423,8 +429,8 @@ fn apply(image: &mut [u32], sub: u32, sup: u32, next: Next) -> Step
         Next::Follow(pairs) => follow(image, sub, sup, pairs),
         Next::Isolate { chosen, other } => follow_isolated(image, sub, sup, chosen, other),
         Next::Functor { field, param, body } => follow_functor(image, sub, sup, field, param, body),
-        Next::Upper => join_bounds(image, sub, sup, sub, image::UPPER, sup),
-        Next::Lower => join_bounds(image, sub, sup, sup, image::LOWER, sub),
+        Next::Upper => join_bounds(image, sub, sup, sub, image::format::UPPER, sup),
+        Next::Lower => join_bounds(image, sub, sup, sup, image::format::LOWER, sub),
     }
 }
 
@@ -436,8 +442,8 @@ pub fn take_step(image: &mut [u32]) -> Step
     ensures { λ _. ⌜ now (image .exit) ≡ taken (now (image .entry)) (rule (storeOf (now (image .entry))) (lastPair (now (image .entry)))) .words ⌝ }
 {
     let last = image::pending_count(image) - 1;
-    let sub = image::pending_word(image, last, image::PENDING_SUB_WORD);
-    let sup = image::pending_word(image, last, image::PENDING_SUP_WORD);
+    let sub = image::pending_word(image, last, image::format::PENDING_SUB_WORD);
+    let sup = image::pending_word(image, last, image::format::PENDING_SUP_WORD);
     if sub == sup {
         skip(image);
         return Step::Went;

@@ -26,8 +26,8 @@ pub fn belongs(image: &[u32], i: u32, v: u32, side: u32) -> bool
     requires { ⌜ i < length (boundsAll (now image)) ⌝ }
     ensures { λ r. ⌜ r ≡ belongsTo v side (boundAt (boundsAll (now (image .entry))) i) ⌝ }
 {
-    let of = image::bound_word(image, i, image::VARIABLE_WORD);
-    let on = image::bound_word(image, i, image::SIDE_WORD);
+    let of = image::bound_word(image, i, image::format::VARIABLE_WORD);
+    let on = image::bound_word(image, i, image::format::SIDE_WORD);
     (of == v) & (on == side)
 }
 
@@ -60,7 +60,7 @@ fn is_bound(image: &[u32], i: u32, v: u32, side: u32, b: u32) -> bool
     ensures { λ r. ⌜ r ≡ isBound v side b (boundAt (boundsAll (now (image .entry))) i) ⌝ }
 {
     let of = belongs(image, i, v, side);
-    let bound = image::bound_word(image, i, image::BOUND_WORD);
+    let bound = image::bound_word(image, i, image::format::BOUND_WORD);
     of & (b == bound)
 }
 
@@ -86,7 +86,7 @@ pub fn repeats_bound(image: &[u32], n: u32, v: u32, side: u32, b: u32) -> bool
     requires { ⌜ n ≡ length (boundsAll (now image)) ⌝ }
     ensures { λ r. ⌜ r ≡ repeats (boundsIn (boundsAll (now (image .entry))) v side) b ⌝ }
 {
-    if image::SCAN_MOST < count_bounds(image, n, v, side) {
+    if image::format::SCAN_MOST < count_bounds(image, n, v, side) {
         return false;
     }
     has_bound(image, n, v, side, b)
@@ -103,7 +103,7 @@ pub fn put_bound(image: &mut [u32], v: u32, side: u32, b: u32) -> Reply
         return Reply::Done;
     }
     if image::bounds_capacity(image) <= n {
-        return Reply::Refused(Refusal::NoRoom(image::BOUNDS));
+        return Reply::Refused(Refusal::NoRoom(image::format::BOUNDS));
     }
     writes::push_bound(image, v, side, b);
     Reply::Done

@@ -142,12 +142,12 @@ pub fn print_name(fd: i32, r: Refusal) {
 // A region's name.
 pub fn print_region(fd: i32, region: u32) {
     match region {
-        image::ENTRIES => write(fd, b"entries"),
-        image::FIELDS => write(fd, b"fields"),
-        image::BOUNDS => write(fd, b"bounds"),
-        image::VISITED => write(fd, b"visited"),
-        image::PENDING => write(fd, b"pending"),
-        image::EQUALS => write(fd, b"equals"),
+        image::format::ENTRIES => write(fd, b"entries"),
+        image::format::FIELDS => write(fd, b"fields"),
+        image::format::BOUNDS => write(fd, b"bounds"),
+        image::format::VISITED => write(fd, b"visited"),
+        image::format::PENDING => write(fd, b"pending"),
+        image::format::EQUALS => write(fd, b"equals"),
         _ => {}
     }
 }
@@ -164,7 +164,7 @@ fn print_broken(list: &[u8], kind: u32, sub: u32, sup: u32, name: u32) {
     print(b", kind ");
     print_number(kind);
     print(b", ");
-    if kind == image::FIELD_MISSING {
+    if kind == image::format::FIELD_MISSING {
         print_missing(list, sub, sup, name);
     } else {
         print_mismatch(sub, sup);

@@ -27,10 +27,10 @@ fn spread_of(image: &[u32], kind: u32, x: u32, y: u32) -> u32
 {
     match kind {
         0..=4 => 1,
-        5..=6 => 1 + image::entry_word(image, x, image::SPREAD_WORD),
+        5..=6 => 1 + image::entry_word(image, x, image::format::SPREAD_WORD),
         _ => 1
-            + image::entry_word(image, x, image::SPREAD_WORD)
-            + image::entry_word(image, y, image::SPREAD_WORD),
+            + image::entry_word(image, x, image::format::SPREAD_WORD)
+            + image::entry_word(image, y, image::format::SPREAD_WORD),
     }
 }
 
@@ -43,10 +43,10 @@ pub fn make(image: &mut [u32], kind: u32, x: u32, y: u32) -> Made
 {
     let number = image::entries_count(image);
     if image::entries_capacity(image) <= number {
-        return Made::Refused(Refusal::NoRoom(image::ENTRIES));
+        return Made::Refused(Refusal::NoRoom(image::format::ENTRIES));
     }
     let spread = spread_of(image, kind, x, y);
-    if image::SPREAD_MOST < spread {
+    if image::format::SPREAD_MOST < spread {
         return Made::Refused(Refusal::TooDeep);
     }
     writes::push_entry(image, kind, x, y, 0, 0, spread);
@@ -94,7 +94,7 @@ pub fn undo(image: &mut [u32], old: u32)
     pop_to(image, old);
     let mut i: u32 = 0;
     while i < old {
-        if old < image::entry_word(image, i, image::NEGATION_WORD) {
+        if old < image::entry_word(image, i, image::format::NEGATION_WORD) {
             writes::put_negation(image, i, 0);
         }
         i += 1;
@@ -106,20 +106,20 @@ pub fn negate(image: &mut [u32], n: u32) -> Negated
     requires { ⌜ Negatable (now image) n ⌝ }
     ensures { λ r. ⌜ NegatedIn (table (now (image .entry))) n r (now (image .exit)) ⌝ }
 {
-    let cached = image::entry_word(image, n, image::NEGATION_WORD);
+    let cached = image::entry_word(image, n, image::format::NEGATION_WORD);
     if 0 < cached {
         return Negated::Number(cached - 1);
     }
-    let kind = image::entry_word(image, n, image::KIND_WORD);
-    if kind < image::NEG {
-        let spread = 1 + image::entry_word(image, n, image::SPREAD_WORD);
-        return add(image, image::NEG, n, 0, spread, n);
+    let kind = image::entry_word(image, n, image::format::KIND_WORD);
+    if kind < image::format::NEG {
+        let spread = 1 + image::entry_word(image, n, image::format::SPREAD_WORD);
+        return add(image, image::format::NEG, n, 0, spread, n);
     }
-    let x = image::entry_word(image, n, image::X_WORD);
-    if kind < image::INTER {
+    let x = image::entry_word(image, n, image::format::X_WORD);
+    if kind < image::format::INTER {
         return Negated::Number(x);
     }
-    let y = image::entry_word(image, n, image::Y_WORD);
+    let y = image::entry_word(image, n, image::format::Y_WORD);
     let Negated::Number(p) = negate(image, x) else {
         return Negated::Full;
     };
@@ -127,10 +127,17 @@ pub fn negate(image: &mut [u32], n: u32) -> Negated
         return Negated::Full;
     };
     let spread = 1
-        + image::entry_word(image, p, image::SPREAD_WORD)
-        + image::entry_word(image, q, image::SPREAD_WORD);
+        + image::entry_word(image, p, image::format::SPREAD_WORD)
+        + image::entry_word(image, q, image::format::SPREAD_WORD);
     // the inter of negations for a union, and the other way round
-    add(image, image::INTER + image::UNION - kind, p, q, spread, n)
+    add(
+        image,
+        image::format::INTER + image::format::UNION - kind,
+        p,
+        q,
+        spread,
+        n,
+    )
 }
 
 // Makes Neg(n), or leaves every word as found.
@@ -143,9 +150,9 @@ pub fn make_neg(image: &mut [u32], n: u32) -> Made
     let old = image::entries_count(image);
     let Negated::Number(k) = negate(image, n) else {
         undo(image, old);
-        return Made::Refused(Refusal::NoRoom(image::ENTRIES)); // however deep it would go
+        return Made::Refused(Refusal::NoRoom(image::format::ENTRIES)); // however deep it would go
     };
-    if image::SPREAD_MOST < image::entry_word(image, k, image::SPREAD_WORD) {
+    if image::format::SPREAD_MOST < image::entry_word(image, k, image::format::SPREAD_WORD) {
         undo(image, old);
         return Made::Refused(Refusal::TooDeep);
     }
@@ -161,7 +168,7 @@ fn put_fields(image: &mut [u32], fields: &[u32], n: usize)
 {
     let mut i: usize = 0;
     while i < n {
-        let at = image::FIELD_WIDTH * i;
+        let at = image::format::FIELD_WIDTH * i;
         writes::push_field(image, fields[at], fields[at + 1], fields[at + 2]);
         i += 1;
     }
@@ -190,7 +197,7 @@ fn dynamic_bit(dynamic: Dynamic) -> u32
 {
     match dynamic {
         Dynamic::Absent => 0,
-        Dynamic::Present(_) => image::DYNAMIC_FLAG,
+        Dynamic::Present(_) => image::format::DYNAMIC_FLAG,
     }
 }
 
@@ -198,7 +205,7 @@ fn dynamic_bit(dynamic: Dynamic) -> u32
 fn open_bit(is_open: bool) -> u32
     ensures { λ r. ⌜ (r ≡ openFlag * bit is_open) × (r ≤ 2) ⌝ }
 {
-    if is_open { image::OPEN_FLAG } else { 0 }
+    if is_open { image::format::OPEN_FLAG } else { 0 }
 }
 
 // A word as an index.
@@ -216,19 +223,19 @@ pub fn make_attrset(image: &mut [u32], fields: &[u32], is_open: bool, dynamic: D
 {
     let number = image::entries_count(image);
     if image::entries_capacity(image) <= number {
-        return Made::Refused(Refusal::NoRoom(image::ENTRIES));
+        return Made::Refused(Refusal::NoRoom(image::format::ENTRIES));
     }
     let old = image::fields_count(image);
     let room = image::fields_capacity(image) - old;
-    let n = fields.len() / image::FIELD_WIDTH;
+    let n = fields.len() / image::format::FIELD_WIDTH;
     if wide(room) < n {
-        return Made::Refused(Refusal::NoRoom(image::FIELDS));
+        return Made::Refused(Refusal::NoRoom(image::format::FIELDS));
     }
     put_fields(image, fields, n);
     let count = n as u32;
     let first = first_field(old, count);
     let typed = dynamic_type(dynamic);
     let flags = open_bit(is_open) + dynamic_bit(dynamic);
-    writes::push_entry(image, image::ATTRSET, first, count, typed, flags, 1);
+    writes::push_entry(image, image::format::ATTRSET, first, count, typed, flags, 1);
     Made::Number(number)
 }

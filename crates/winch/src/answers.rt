@@ -75,7 +75,7 @@ pub fn print_refusal(fd: i32, names: &[u8], r: Refusal) {
 
 // Why a question failed: the kind as in 01's break words, the pair, and the name of a field that is missing.
 pub fn print_break(fd: i32, names: &[u8], kind: u32, sub: u32, sup: u32, name: u32) {
-    if kind == image::FIELD_MISSING {
+    if kind == image::format::FIELD_MISSING {
         print_missing(fd, names, sub, sup, name);
     } else {
         print_mismatch(fd, sub, sup);

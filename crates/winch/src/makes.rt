@@ -66,7 +66,7 @@ fn moved(words: &mut [u32], is_up: bool) -> Reply {
 
 // The current level.
 fn level_of(words: &[u32]) -> u32 {
-    word(words, image::LEVEL_AT)
+    word(words, image::format::LEVEL_AT)
 }
 
 // Goes to a level by as many levels up or down; nothing is told when it is done.

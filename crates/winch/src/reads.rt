@@ -27,7 +27,7 @@ use operators::Resolved;
 use telling::print_region;
 
 // As many regions as there are: the number of the last.
-const REGIONS: u32 = image::EQUALS;
+const REGIONS: u32 = image::format::EQUALS;
 
 // `entry N`: an entry, as a dump shows it.
 pub fn tell_entry(fd: i32, text: &[u8], desk: &[u32; 10256], names: &[u8], words: &[u32], n: u32) {
@@ -174,15 +174,15 @@ fn print_equal(fd: i32, left: u32, right: u32) {
 
 // `state`: the header in one line.
 pub fn tell_state(fd: i32, names: &[u8], words: &[u32]) {
-    if word(words, image::STATE_AT) == image::IDLE {
+    if word(words, image::format::STATE_AT) == image::format::IDLE {
         print(fd, b"idle level");
     } else {
         print(fd, b"asked level");
     }
-    print_next(fd, word(words, image::LEVEL_AT));
+    print_next(fd, word(words, image::format::LEVEL_AT));
     print_broken(fd, names, words);
-    print_word(fd, b"names", word(words, image::NAMES_AT));
-    print_word(fd, b"functor", word(words, image::FUNCTOR_AT));
+    print_word(fd, b"names", word(words, image::format::NAMES_AT));
+    print_word(fd, b"functor", word(words, image::format::FUNCTOR_AT));
     print_regions(fd, words);
     print(fd, b"\n");
 }
@@ -191,46 +191,46 @@ pub fn tell_state(fd: i32, names: &[u8], words: &[u32]) {
 fn print_regions(fd: i32, words: &[u32]) {
     print_count(
         fd,
-        image::ENTRIES,
-        word(words, image::ENTRIES_COUNT_AT),
-        word(words, image::ENTRIES_CAPACITY_AT),
+        image::format::ENTRIES,
+        word(words, image::format::ENTRIES_COUNT_AT),
+        word(words, image::format::ENTRIES_CAPACITY_AT),
     );
     print_count(
         fd,
-        image::FIELDS,
-        word(words, image::FIELDS_COUNT_AT),
-        word(words, image::FIELDS_CAPACITY_AT),
+        image::format::FIELDS,
+        word(words, image::format::FIELDS_COUNT_AT),
+        word(words, image::format::FIELDS_CAPACITY_AT),
     );
     print_count(
         fd,
-        image::BOUNDS,
-        word(words, image::BOUNDS_COUNT_AT),
-        word(words, image::BOUNDS_CAPACITY_AT),
+        image::format::BOUNDS,
+        word(words, image::format::BOUNDS_COUNT_AT),
+        word(words, image::format::BOUNDS_CAPACITY_AT),
     );
     print_count(
         fd,
-        image::VISITED,
-        word(words, image::VISITED_COUNT_AT),
-        word(words, image::VISITED_CAPACITY_AT),
+        image::format::VISITED,
+        word(words, image::format::VISITED_COUNT_AT),
+        word(words, image::format::VISITED_CAPACITY_AT),
     );
     print_count(
         fd,
-        image::PENDING,
-        word(words, image::PENDING_COUNT_AT),
-        word(words, image::PENDING_CAPACITY_AT),
+        image::format::PENDING,
+        word(words, image::format::PENDING_COUNT_AT),
+        word(words, image::format::PENDING_CAPACITY_AT),
     );
     print_count(
         fd,
-        image::EQUALS,
-        word(words, image::EQUALS_COUNT_AT),
-        word(words, image::EQUALS_CAPACITY_AT),
+        image::format::EQUALS,
+        word(words, image::format::EQUALS_COUNT_AT),
+        word(words, image::format::EQUALS_CAPACITY_AT),
     );
 }
 
 // The break words.
 fn print_broken(fd: i32, names: &[u8], words: &[u32]) {
-    let kind = word(words, image::BREAK_KIND_AT);
-    if kind == image::UNBROKEN {
+    let kind = word(words, image::format::BREAK_KIND_AT);
+    if kind == image::format::UNBROKEN {
         return print(fd, b" break none");
     }
     print(fd, b" break ");
@@ -238,9 +238,9 @@ fn print_broken(fd: i32, names: &[u8], words: &[u32]) {
         fd,
         names,
         kind,
-        word(words, image::BREAK_SUB_AT),
-        word(words, image::BREAK_SUP_AT),
-        word(words, image::BREAK_NAME_AT),
+        word(words, image::format::BREAK_SUB_AT),
+        word(words, image::format::BREAK_SUP_AT),
+        word(words, image::format::BREAK_NAME_AT),
     );
 }
 
@@ -257,8 +257,8 @@ fn print_count(fd: i32, region: u32, count: u32, capacity: u32) {
 // `count`: how many entries, bounds and visited pairs there are.
 pub fn tell_count(fd: i32, words: &[u32]) {
     print_called(fd, b"entries", entries(words));
-    print_word(fd, b"bounds", word(words, image::BOUNDS_COUNT_AT));
-    print_word(fd, b"visited", word(words, image::VISITED_COUNT_AT));
+    print_word(fd, b"bounds", word(words, image::format::BOUNDS_COUNT_AT));
+    print_word(fd, b"visited", word(words, image::format::VISITED_COUNT_AT));
     print(fd, b"\n");
 }
 

@@ -8,14 +8,20 @@ use crate::words::field_word;
 
 // An entry's kind and what it has.
 pub fn print_entry(fd: i32, text: &[u8], desk: &[u32; 10256], names: &[u8], words: &[u32], n: u32) {
-    let kind = entry_word(words, n, image::KIND_WORD);
-    let x = entry_word(words, n, image::X_WORD);
+    let kind = entry_word(words, n, image::format::KIND_WORD);
+    let x = entry_word(words, n, image::format::X_WORD);
     print_number(fd, kind);
     match kind {
-        image::ATTRSET => print_attrset(fd, names, words, n),
-        image::NAMED => print_named(fd, text, desk, x, entry_word(words, n, image::Y_WORD)),
-        image::LAMBDA | image::INTER | image::UNION => {
-            print_two(fd, x, entry_word(words, n, image::Y_WORD))
+        image::format::ATTRSET => print_attrset(fd, names, words, n),
+        image::format::NAMED => print_named(
+            fd,
+            text,
+            desk,
+            x,
+            entry_word(words, n, image::format::Y_WORD),
+        ),
+        image::format::LAMBDA | image::format::INTER | image::format::UNION => {
+            print_two(fd, x, entry_word(words, n, image::format::Y_WORD))
         }
         _ => print_next(fd, x),
     }
@@ -36,11 +42,11 @@ fn print_named(fd: i32, text: &[u8], desk: &[u32; 10256], inner: u32, label: u32
 
 // An attrset: whether it is open, its dynamic type, its fields.
 fn print_attrset(fd: i32, names: &[u8], words: &[u32], n: u32) {
-    let flags = entry_word(words, n, image::FLAGS_WORD);
+    let flags = entry_word(words, n, image::format::FLAGS_WORD);
     print_flag(fd, image::says_open(flags));
-    print_dynamic(fd, flags, entry_word(words, n, image::Z_WORD));
-    let first = entry_word(words, n, image::X_WORD);
-    let count = entry_word(words, n, image::Y_WORD);
+    print_dynamic(fd, flags, entry_word(words, n, image::format::Z_WORD));
+    let first = entry_word(words, n, image::format::X_WORD);
+    let count = entry_word(words, n, image::format::Y_WORD);
     print_next(fd, count);
     print_fields(fd, names, words, first, count);
 }
@@ -77,10 +83,10 @@ fn print_field(fd: i32, names: &[u8], words: &[u32], n: u32) {
     print(fd, b" ");
     print(
         fd,
-        names::show(names, field_word(words, n, image::NAME_WORD)),
+        names::show(names, field_word(words, n, image::format::NAME_WORD)),
     );
-    print_next(fd, field_word(words, n, image::ENTRY_WORD));
-    print_next(fd, field_word(words, n, image::OPTIONAL_WORD));
+    print_next(fd, field_word(words, n, image::format::ENTRY_WORD));
+    print_next(fd, field_word(words, n, image::format::OPTIONAL_WORD));
 }
 
 // A dump's line of an entry.
@@ -90,10 +96,10 @@ pub fn tell_entry(fd: i32, text: &[u8], desk: &[u32; 10256], names: &[u8], words
     print(fd, b" m");
     print_flag(
         fd,
-        image::says_mark(entry_word(words, n, image::FLAGS_WORD)),
+        image::says_mark(entry_word(words, n, image::format::FLAGS_WORD)),
     );
     print(fd, b" n");
-    print_negation(fd, entry_word(words, n, image::NEGATION_WORD));
+    print_negation(fd, entry_word(words, n, image::format::NEGATION_WORD));
     print(fd, b" : ");
     print_entry(fd, text, desk, names, words, n);
     print(fd, b"\n");

@@ -18,12 +18,12 @@ use model::Reply;
 // The largest capacities.
 fn largest() -> Capacities {
     Capacities {
-        entries: image::ENTRIES_MOST,
-        fields: image::FIELDS_MOST,
-        bounds: image::BOUNDS_MOST,
-        visited: image::VISITED_MOST,
-        pending: image::PENDING_MOST,
-        equals: image::EQUALS_MOST,
+        entries: image::format::ENTRIES_MOST,
+        fields: image::format::FIELDS_MOST,
+        bounds: image::format::BOUNDS_MOST,
+        visited: image::format::VISITED_MOST,
+        pending: image::format::PENDING_MOST,
+        equals: image::format::EQUALS_MOST,
     }
 }
 
@@ -41,23 +41,23 @@ pub fn capacities(args: &[u32; 6]) -> Capacities {
 
 // How many words a table of these capacities has.
 fn size_of(c: Capacities) -> usize {
-    image::HEADER_WORDS
-        + image::ENTRY_WIDTH * wide(c.entries)
-        + image::FIELD_WIDTH * wide(c.fields)
-        + image::BOUND_WIDTH * wide(c.bounds)
-        + image::VISITED_WIDTH * wide(c.visited)
-        + image::PENDING_WIDTH * wide(c.pending)
-        + image::EQUALS_WIDTH * wide(c.equals)
+    image::format::HEADER_WORDS
+        + image::format::ENTRY_WIDTH * wide(c.entries)
+        + image::format::FIELD_WIDTH * wide(c.fields)
+        + image::format::BOUND_WIDTH * wide(c.bounds)
+        + image::format::VISITED_WIDTH * wide(c.visited)
+        + image::format::PENDING_WIDTH * wide(c.pending)
+        + image::format::EQUALS_WIDTH * wide(c.equals)
 }
 
 // Whether no capacity is over its maximum.
 pub fn is_small(c: Capacities) -> bool {
-    (c.entries <= image::ENTRIES_MOST)
-        & (c.fields <= image::FIELDS_MOST)
-        & (c.bounds <= image::BOUNDS_MOST)
-        & (c.visited <= image::VISITED_MOST)
-        & (c.pending <= image::PENDING_MOST)
-        & (c.equals <= image::EQUALS_MOST)
+    (c.entries <= image::format::ENTRIES_MOST)
+        & (c.fields <= image::format::FIELDS_MOST)
+        & (c.bounds <= image::format::BOUNDS_MOST)
+        & (c.visited <= image::format::VISITED_MOST)
+        & (c.pending <= image::format::PENDING_MOST)
+        & (c.equals <= image::format::EQUALS_MOST)
 }
 
 // `new`: starts the largest table; nothing is told when it is done.

@@ -26,43 +26,46 @@ pub fn wide(n: u32) -> usize
 pub fn entry_word(words: &[u32], n: u32, which: usize) -> u32
     requires { ⌜ which ≤ 7 ⌝ }
 {
-    let start = wide(word(words, image::ENTRIES_OFFSET_AT));
-    word(words, start + image::ENTRY_WIDTH * wide(n) + which)
+    let start = wide(word(words, image::format::ENTRIES_OFFSET_AT));
+    word(words, start + image::format::ENTRY_WIDTH * wide(n) + which)
 }
 
 // A word of a field.
 pub fn field_word(words: &[u32], n: u32, which: usize) -> u32
     requires { ⌜ which ≤ 7 ⌝ }
 {
-    let start = wide(word(words, image::FIELDS_OFFSET_AT));
-    word(words, start + image::FIELD_WIDTH * wide(n) + which)
+    let start = wide(word(words, image::format::FIELDS_OFFSET_AT));
+    word(words, start + image::format::FIELD_WIDTH * wide(n) + which)
 }
 
 // A word of a bound.
 pub fn bound_word(words: &[u32], n: u32, which: usize) -> u32
     requires { ⌜ which ≤ 7 ⌝ }
 {
-    let start = wide(word(words, image::BOUNDS_OFFSET_AT));
-    word(words, start + image::BOUND_WIDTH * wide(n) + which)
+    let start = wide(word(words, image::format::BOUNDS_OFFSET_AT));
+    word(words, start + image::format::BOUND_WIDTH * wide(n) + which)
 }
 
 // A word of a visited pair.
 pub fn visited_word(words: &[u32], n: u32, which: usize) -> u32
     requires { ⌜ which ≤ 7 ⌝ }
 {
-    let start = wide(word(words, image::VISITED_OFFSET_AT));
-    word(words, start + image::VISITED_WIDTH * wide(n) + which)
+    let start = wide(word(words, image::format::VISITED_OFFSET_AT));
+    word(
+        words,
+        start + image::format::VISITED_WIDTH * wide(n) + which,
+    )
 }
 
 // A word of a pair asked equal.
 pub fn equals_word(words: &[u32], n: u32, which: usize) -> u32
     requires { ⌜ which ≤ 7 ⌝ }
 {
-    let start = wide(word(words, image::EQUALS_OFFSET_AT));
-    word(words, start + image::EQUALS_WIDTH * wide(n) + which)
+    let start = wide(word(words, image::format::EQUALS_OFFSET_AT));
+    word(words, start + image::format::EQUALS_WIDTH * wide(n) + which)
 }
 
 // How many entries there are.
 pub fn entries(words: &[u32]) -> u32 {
-    word(words, image::ENTRIES_COUNT_AT)
+    word(words, image::format::ENTRIES_COUNT_AT)
 }

@@ -61,7 +61,12 @@ pub fn push_entry(image: &mut [u32], kind: u32, x: u32, y: u32, z: u32, flags: u
     ensures { λ _. ⌜ Shows (now (image .exit)) (entriesTo (now (image .entry)) (entriesOf (now (image .entry)) ++ (entryMade kind x y z flags spread ∷ []))) ⌝ }
 {
     let row = [kind, x, y, z, flags, spread, 0];
-    append(image, image::IN_ENTRIES, image::ENTRY_WIDTH, &row);
+    append(
+        image,
+        image::format::IN_ENTRIES,
+        image::format::ENTRY_WIDTH,
+        &row,
+    );
 }
 
 // Takes the last entry off, and its words with it.
@@ -71,7 +76,12 @@ pub fn pop_entry(image: &mut [u32])
     ensures { λ _. ⌜ Shows (now (image .exit)) (entriesTo (now (image .entry)) (take (length (entriesOf (now (image .entry))) - 1) (entriesOf (now (image .entry))))) ⌝ }
 {
     let zeros = [0, 0, 0, 0, 0, 0, 0];
-    remove(image, image::IN_ENTRIES, image::ENTRY_WIDTH, &zeros);
+    remove(
+        image,
+        image::format::IN_ENTRIES,
+        image::format::ENTRY_WIDTH,
+        &zeros,
+    );
 }
 
 // Writes word j of entry i.
@@ -81,7 +91,7 @@ fn put_entry_word(image: &mut [u32], i: u32, j: usize, v: u32)
     requires { ⌜ j < entryWidth ⌝ }
     ensures { λ _. ⌜ now (image .exit) ≡ set (now (image .entry)) (headerWords + entryWidth * i + j) v ⌝ }
 {
-    image[image::HEADER_WORDS + image::ENTRY_WIDTH * image::wide(i) + j] = v;
+    image[image::format::HEADER_WORDS + image::format::ENTRY_WIDTH * image::wide(i) + j] = v;
 }
 
 // Caches a negation at entry i: c is its number plus 1, or 0.
@@ -90,7 +100,7 @@ pub fn put_negation(image: &mut [u32], i: u32, c: u32)
     requires { ⌜ i < length (entriesOf (now image)) ⌝ }
     ensures { λ _. ⌜ Shows (now (image .exit)) (entriesTo (now (image .entry)) (changed (withNegation c) (entriesOf (now (image .entry))) i)) ⌝ }
 {
-    put_entry_word(image, i, image::NEGATION_WORD, c);
+    put_entry_word(image, i, image::format::NEGATION_WORD, c);
 }
 
 // Marks entry i.
@@ -99,12 +109,12 @@ pub fn put_mark(image: &mut [u32], i: u32)
     requires { ⌜ i < length (entriesOf (now image)) ⌝ }
     ensures { λ _. ⌜ Shows (now (image .exit)) (entriesTo (now (image .entry)) (changed withMark (entriesOf (now (image .entry))) i)) ⌝ }
 {
-    let flags = image::entry_word(image, i, image::FLAGS_WORD);
+    let flags = image::entry_word(image, i, image::format::FLAGS_WORD);
     put_entry_word(
         image,
         i,
-        image::FLAGS_WORD,
-        flags - flags % 2 + image::MARK_FLAG,
+        image::format::FLAGS_WORD,
+        flags - flags % 2 + image::format::MARK_FLAG,
     );
 }
 
@@ -114,7 +124,7 @@ pub fn put_level(image: &mut [u32], i: u32, l: u32)
     requires { ⌜ i < length (entriesOf (now image)) ⌝ }
     ensures { λ _. ⌜ Shows (now (image .exit)) (entriesTo (now (image .entry)) (changed (withX l) (entriesOf (now (image .entry))) i)) ⌝ }
 {
-    put_entry_word(image, i, image::X_WORD, l);
+    put_entry_word(image, i, image::format::X_WORD, l);
 }
 
 // Puts a field record behind the last.
@@ -124,7 +134,12 @@ pub fn push_field(image: &mut [u32], name: u32, entry: u32, optional: u32)
     ensures { λ _. ⌜ Shows (now (image .exit)) (fieldsTo (now (image .entry)) (fieldsIn (now (image .entry)) ++ (record { name = name; entry = entry; optional = optional } ∷ []))) ⌝ }
 {
     let row = [name, entry, optional];
-    append(image, image::IN_FIELDS, image::FIELD_WIDTH, &row);
+    append(
+        image,
+        image::format::IN_FIELDS,
+        image::format::FIELD_WIDTH,
+        &row,
+    );
 }
 
 // Puts a bound behind the last.
@@ -134,7 +149,12 @@ pub fn push_bound(image: &mut [u32], variable: u32, side: u32, bound: u32)
     ensures { λ _. ⌜ Shows (now (image .exit)) (boundsTo (now (image .entry)) (boundsAll (now (image .entry)) ++ (record { variable = variable; side = side; bound = bound } ∷ []))) ⌝ }
 {
     let row = [variable, side, bound];
-    append(image, image::IN_BOUNDS, image::BOUND_WIDTH, &row);
+    append(
+        image,
+        image::format::IN_BOUNDS,
+        image::format::BOUND_WIDTH,
+        &row,
+    );
 }
 
 // Records a pair as visited.
@@ -144,7 +164,12 @@ pub fn push_visited(image: &mut [u32], sub: u32, sup: u32)
     ensures { λ _. ⌜ Shows (now (image .exit)) (visitedTo (now (image .entry)) (visitedIn (now (image .entry)) ++ ((sub ⊑ sup) ∷ []))) ⌝ }
 {
     let row = [sub, sup];
-    append(image, image::IN_VISITED, image::VISITED_WIDTH, &row);
+    append(
+        image,
+        image::format::IN_VISITED,
+        image::format::VISITED_WIDTH,
+        &row,
+    );
 }
 
 // Records a pair as asked equal.
@@ -154,7 +179,12 @@ pub fn push_equal(image: &mut [u32], left: u32, right: u32)
     ensures { λ _. ⌜ Shows (now (image .exit)) (equalsTo (now (image .entry)) (equalsIn (now (image .entry)) ++ ((left ⊑ right) ∷ []))) ⌝ }
 {
     let row = [left, right];
-    append(image, image::IN_EQUALS, image::EQUALS_WIDTH, &row);
+    append(
+        image,
+        image::format::IN_EQUALS,
+        image::format::EQUALS_WIDTH,
+        &row,
+    );
 }
 
 // After start the state word is written where a question is opened and where it is ended, and nowhere else: what puts pairs on pending
@@ -167,7 +197,12 @@ pub fn put_asked(image: &mut [u32], sub: u32, sup: u32)
     ensures { λ _. ⌜ ShowsAs idle (now (image .exit)) (pendingTo (now (image .entry)) (pendingIn (now (image .entry)) ++ ((sub ⊑ sup) ∷ []))) ⌝ }
 {
     let row = [sub, sup];
-    append(image, image::IN_PENDING, image::PENDING_WIDTH, &row);
+    append(
+        image,
+        image::format::IN_PENDING,
+        image::format::PENDING_WIDTH,
+        &row,
+    );
 }
 
 // Opens the question whose pairs are pending.
@@ -176,7 +211,7 @@ pub fn open_question(image: &mut [u32])
     requires { ⌜ 0 < length (pendingIn (now image)) ⌝ }
     ensures { λ _. ⌜ Shows (now (image .exit)) (table (now (image .entry))) ⌝ }
 {
-    image[image::STATE_AT] = image::ASKED;
+    image[image::format::STATE_AT] = image::format::ASKED;
 }
 
 // Puts a step's consequence behind the last pending pair.
@@ -186,7 +221,12 @@ pub fn put_consequence(image: &mut [u32], sub: u32, sup: u32)
     ensures { λ _. ⌜ ShowsAs asked (now (image .exit)) (pendingTo (now (image .entry)) (pendingIn (now (image .entry)) ++ ((sub ⊑ sup) ∷ []))) ⌝ }
 {
     let row = [sub, sup];
-    append(image, image::IN_PENDING, image::PENDING_WIDTH, &row);
+    append(
+        image,
+        image::format::IN_PENDING,
+        image::format::PENDING_WIDTH,
+        &row,
+    );
 }
 
 // Takes the last pending pair off, and its words with it.
@@ -196,7 +236,12 @@ pub fn pop_pending(image: &mut [u32])
     ensures { λ _. ⌜ ShowsAs asked (now (image .exit)) (pendingTo (now (image .entry)) (take (length (pendingIn (now (image .entry))) - 1) (pendingIn (now (image .entry))))) ⌝ }
 {
     let zeros = [0, 0];
-    remove(image, image::IN_PENDING, image::PENDING_WIDTH, &zeros);
+    remove(
+        image,
+        image::format::IN_PENDING,
+        image::format::PENDING_WIDTH,
+        &zeros,
+    );
 }
 
 // Takes every pending pair off.
@@ -204,7 +249,7 @@ fn clear_pending(image: &mut [u32])
     requires { ⌜ ShownAs asked (now image) ⌝ }
     ensures { λ _. ⌜ ShowsAs asked (now (image .exit)) (pendingTo (now (image .entry)) []) ⌝ }
 {
-    while 0 < image[image::PENDING_COUNT_AT] {
+    while 0 < image[image::format::PENDING_COUNT_AT] {
         pop_pending(image);
     }
 }
@@ -214,8 +259,8 @@ pub fn end_if_done(image: &mut [u32])
     requires { ⌜ ShownAs asked (now image) ⌝ }
     ensures { λ _. ⌜ Shows (now (image .exit)) (table (now (image .entry))) ⌝ }
 {
-    if image[image::PENDING_COUNT_AT] == 0 {
-        image[image::STATE_AT] = image::IDLE;
+    if image[image::format::PENDING_COUNT_AT] == 0 {
+        image[image::format::STATE_AT] = image::format::IDLE;
     }
 }
 
@@ -233,10 +278,10 @@ pub fn put_break(image: &mut [u32], kind: u32, sub: u32, sup: u32, name: u32)
     requires { ⌜ Shown (now image) ⌝ }
     ensures { λ _. ⌜ Shows (now (image .exit)) (brokenTo (now (image .entry)) (record { kind = kind; sub = sub; sup = sup; name = name })) ⌝ }
 {
-    image[image::BREAK_KIND_AT] = kind;
-    image[image::BREAK_SUB_AT] = sub;
-    image[image::BREAK_SUP_AT] = sup;
-    image[image::BREAK_NAME_AT] = name;
+    image[image::format::BREAK_KIND_AT] = kind;
+    image[image::format::BREAK_SUB_AT] = sub;
+    image[image::format::BREAK_SUP_AT] = sup;
+    image[image::format::BREAK_NAME_AT] = name;
 }
 
 // Puts the current level.
@@ -244,5 +289,5 @@ pub fn put_current_level(image: &mut [u32], l: u32)
     requires { ⌜ Shown (now image) ⌝ }
     ensures { λ _. ⌜ Shows (now (image .exit)) (levelTo (now (image .entry)) l) ⌝ }
 {
-    image[image::LEVEL_AT] = l;
+    image[image::format::LEVEL_AT] = l;
 }
