@@ -22,19 +22,6 @@ ghost use Rattle.image.specs.Shown.{storeOf, entriesOf, fieldsIn, boundsAll};
 ghost use Rattle.image.specs.Records.{fieldAt, boundAt};
 ghost use Rattle.formed.specs.Grouped.{headerRight, RegionInside, entryTold, pairOf, ownRight, entryRightIn};
 
-// The regions, as lengths. Region k has its offset, capacity and count at 6, 7 and 8 + 3k.
-const ENTRIES: usize = image::format::ENTRIES as usize;
-
-const FIELDS: usize = image::format::FIELDS as usize;
-
-const BOUNDS: usize = image::format::BOUNDS as usize;
-
-const VISITED: usize = image::format::VISITED as usize;
-
-const PENDING: usize = image::format::PENDING as usize;
-
-const EQUALS: usize = image::format::EQUALS as usize;
-
 // All flags of an attrset.
 const ATTRSET_FLAGS: u32 = image::format::MARK_FLAG
     + image::format::OPEN_FLAG
@@ -493,9 +480,9 @@ fn records_right(image: &[u32]) -> bool
         & entries_right(image)
         & fields_right(image)
         & bounds_right(image)
-        & pairs_right(image, VISITED)
-        & pairs_right(image, PENDING)
-        & pairs_right(image, EQUALS)
+        & pairs_right(image, image::format::IN_VISITED)
+        & pairs_right(image, image::format::IN_PENDING)
+        & pairs_right(image, image::format::IN_EQUALS)
 }
 
 // Whether the words are a well formed image.
