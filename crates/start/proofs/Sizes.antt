@@ -3,13 +3,13 @@ use Prim.Native.Nat.{ℕ, suc, _+_, _*_, _≤_, _<_}
 use native.Mathlib.Omega.{arith}
 use native.Mathlib.Nat.{add-le-add, mul-le-mul-left}
 use native.Mathlib.Numerals.{add-one}
-use mathlib.Core.Path.{_≡_, refl, sym, ap, _∙_}
+use mathlib.Core.Path.{_≡_, refl}
 use mathlib.Core.List.{List, [], _∷_, map}
 use mathlib.Core.Bool.{Bool, true, _&&_}
 use lib.ListN.{length, getD, drop, List·getD-map}
 use lib.Seq.{sets, drop-cons}
 use lib.Dec.{T, leb}
-use Rattle.model.specs.Format.{Region, noRegion, regions, newest, offsetAt}
+use Rattle.model.specs.Format.{Region, noRegion, regions, newest, headerWords, wordEnd}
 use Rattle.model.specs.Image.{sizeOf}
 use Rattle.model.specs.Calls.{allSmall}
 use Rattle.laws.proofs.Tests.{first, second, le-of}
@@ -35,8 +35,11 @@ small-size (r ∷ rs) [] h = omega arith
 small-size [] [] h = omega arith
 small-size [] (c ∷ cs) h = omega arith
 
-pub little : (cs : List ℕ) → T (allSmall (regions newest) cs) → sizeOf (regions newest) cs ≤ 667648
-little cs h = small-size (regions newest) cs h
+-- so an image's words are counted in one word
+pub counts : (cs : List ℕ) → T (allSmall (regions newest) cs) → headerWords + sizeOf (regions newest) cs < wordEnd
+counts cs h =
+    let m = small-size (regions newest) cs h in
+    omega (arith, m)
 
 -- the tests, the words and the header from region k + 1 on
 abbrev pub smallFrom : ℕ → List ℕ → Bool

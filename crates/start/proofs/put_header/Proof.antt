@@ -5,11 +5,10 @@ use borrow.Author.Needs.{needs}
 use mathlib.Core.Path.{_≡_, refl, sym, ap, _∙_}
 use mathlib.Core.List.{List}
 use denote.Ref.{now}
-use lib.ListN.{length, set}
-use Rattle.model.specs.Format.{regions, newest, headerWords, formatAt, formatWord, namesAt, functorAt}
+use lib.ListN.{length}
+use Rattle.model.specs.Format.{regions, newest, headerWords}
 use Rattle.model.specs.Image.{sizeOf}
-use Rattle.image.specs.Stores.{headedFrom}
-use Rattle.start.proofs.Sizes.{regionsMany, sizeFrom, headFrom, size-on, head-on, head-end, little}
+use Rattle.start.proofs.Sizes.{regionsMany, sizeFrom, headFrom, size-on, head-on, head-end, counts}
 use Rattle.start.proofs.put_header.Statement.{statement}
 use Rattle.start.proofs.put_header.Tie as tie
 use Rattle.start.proofs.put_header.Reads as reads
@@ -33,7 +32,7 @@ loop-holds c = (omega arith, refl, refl, refl)
 cast-put-region : tie.Need-cast-put-region Inv-loop μ-loop
 cast-put-region c =
     let s = c .before .before .before .before .before .before .before .before .before in
-    let m = little (now (s .args .sizes)) (s .pre .1 .1) in
+    let m = counts (now (s .args .sizes)) (s .pre .1 .1) in
     omega (arith, c .before .before .loop .inv .1)
 
 mul-put-region : tie.Need-mul-put-region Inv-loop μ-loop
@@ -64,7 +63,7 @@ mul-at-2 : tie.Need-mul-at-2 Inv-loop μ-loop
 mul-at-2 c =
     let l = c .before .before .before .before .before .before .before .before .loop in
     let s = c .before .before .before .before .before .before .before .before .before .before .before .before .before .before .before in
-    let m = little (now (s .args .sizes)) (s .pre .1 .1) in
+    let m = counts (now (s .args .sizes)) (s .pre .1 .1) in
     let on = size-on (now (s .args .sizes)) (s .pre .1 .0) (l .k) (omega arith) (l .at) (c .wide .result) _ (c .wide .ensures) (l .inv .1) in
     omega (arith, on)
 
@@ -72,7 +71,7 @@ add-at : tie.Need-add-at Inv-loop μ-loop
 add-at c =
     let l = c .before .before .before .before .before .before .before .before .loop in
     let s = c .before .before .before .before .before .before .before .before .before .before .before .before .before .before .before in
-    let m = little (now (s .args .sizes)) (s .pre .1 .1) in
+    let m = counts (now (s .args .sizes)) (s .pre .1 .1) in
     let on = size-on (now (s .args .sizes)) (s .pre .1 .0) (l .k) (omega arith) (l .at) (c .wide .result) _ (c .wide .ensures) (l .inv .1) in
     omega (arith, on)
 

@@ -1,12 +1,12 @@
 -- `size_of`: the words counted so far leave those of the regions that are left.
-use Prim.Native.Nat.{ℕ, _+_, _-_, _≤_}
+use Prim.Native.Nat.{_+_, _-_, _≤_}
 use native.Mathlib.Omega.{arith}
 use borrow.Author.Needs.{needs}
-use mathlib.Core.Path.{_≡_, refl, sym, ap, _∙_}
+use mathlib.Core.Path.{_≡_, refl}
 use denote.Ref.{now}
 use Rattle.model.specs.Format.{regions, newest, headerWords}
 use Rattle.model.specs.Image.{sizeOf}
-use Rattle.start.proofs.Sizes.{regionsMany, sizeFrom, size-on, little}
+use Rattle.start.proofs.Sizes.{regionsMany, sizeFrom, size-on, counts}
 use Rattle.start.proofs.size_of.Statement.{statement}
 use Rattle.start.proofs.size_of.Tie as tie
 use Rattle.start.proofs.size_of.Reads as reads
@@ -41,7 +41,7 @@ mul-at-2 : tie.Need-mul-at-2 Inv-loop μ-loop
 mul-at-2 c =
     let l = c .before .before .before .loop in
     let s = c .before .before .before .before .before in
-    let m = little (now (s .args .sizes)) (s .pre .1) in
+    let m = counts (now (s .args .sizes)) (s .pre .1) in
     let on = size-on (now (s .args .sizes)) (s .pre .0) (l .k) (omega arith) (l .at) (c .wide .result) _ (c .wide .ensures) (l .inv .1) in
     omega (arith, on)
 
@@ -49,7 +49,7 @@ add-at : tie.Need-add-at Inv-loop μ-loop
 add-at c =
     let l = c .before .before .before .loop in
     let s = c .before .before .before .before .before in
-    let m = little (now (s .args .sizes)) (s .pre .1) in
+    let m = counts (now (s .args .sizes)) (s .pre .1) in
     let on = size-on (now (s .args .sizes)) (s .pre .0) (l .k) (omega arith) (l .at) (c .wide .result) _ (c .wide .ensures) (l .inv .1) in
     omega (arith, on)
 
