@@ -15,7 +15,7 @@ use Rattle.model.specs.Calls.{allSmall}
 use Rattle.laws.proofs.Tests.{first, second, le-of}
 use Rattle.image.specs.Stores.{headedFrom}
 
--- the code's two tables are the format's
+-- the code's two tables, which are the format's, and how many regions there are
 abbrev pub widths : List ℕ
 widths = map (λ r. r .width) (regions newest)
 
@@ -48,6 +48,14 @@ smallFrom k cs = allSmall (drop k (regions newest)) (drop k cs)
 abbrev pub sizeFrom : ℕ → List ℕ → ℕ
 sizeFrom k cs = sizeOf (drop k (regions newest)) (drop k cs)
 
+abbrev pub sizeAll : List ℕ → ℕ
+sizeAll cs = headerWords + sizeFrom 0 cs
+
+-- c records of region k + 1 counted: what is left, and no word too far
+pub record SizeOn (cs : List ℕ) (k at c : ℕ) : Type 0 where
+  pub next : at + getD widths k 0 * c + sizeFrom (k + 1) cs ≡ sizeAll cs
+  pub within : at + getD widths k 0 * c < wordEnd
+
 abbrev pub headFrom : (k at : ℕ) → List ℕ → List ℕ → List ℕ
 headFrom k at cs w = headedFrom (1 + k) at (drop k (regions newest)) (drop k cs) w
 
@@ -65,8 +73,8 @@ module _ (cs : List ℕ) (n : length cs ≡ regionsMany) (k : ℕ) (h : k < regi
   size-here-on : sizeFrom k cs ≡ getD widths k 0 * getD cs k 0 + sizeFrom (k + 1) cs
   size-here-on = rw (List·getD-map (λ r. r .width) (regions newest) k noRegion, region-here, size-here)
 
-  pub size-on : (at c all : ℕ) → c ≡ getD cs k 0 → at + sizeFrom k cs ≡ all → at + getD widths k 0 * c + sizeFrom (k + 1) cs ≡ all
-  size-on at c all e h = rw e (omega (arith, h, size-here-on))
+  pub size-on : (at c : ℕ) → c ≡ getD cs k 0 → T (allSmall (regions newest) cs) → at + sizeFrom k cs ≡ sizeAll cs → SizeOn cs k at c
+  size-on at c e t h = record { next = rw e (omega (arith, h, size-here-on)); within = rw e (omega (arith, h, size-here-on, counts cs t)) }
 
   pub head-on : (at : ℕ) (w : List ℕ) → headFrom k at cs w ≡ headFrom (k + 1) (at + getD widths k 0 * getD cs k 0) cs (sets w (9 + 3 * k) (at ∷ getD cs k 0 ∷ 0 ∷ []))
   unfolding headedFrom
