@@ -3,13 +3,13 @@ use Prim.Native.Nat.{ℕ, suc, _+_, _*_, _≤_, _<_}
 use native.Mathlib.Omega.{arith}
 use native.Mathlib.Nat.{add-le-add, mul-le-mul-left}
 use native.Mathlib.Numerals.{add-one}
-use mathlib.Core.Path.{_≡_, refl, sym, ap, _∙_}
+use mathlib.Core.Path.{_≡_, refl}
 use mathlib.Core.List.{List, [], _∷_, map}
 use mathlib.Core.Bool.{Bool, true, _&&_}
 use lib.ListN.{length, getD, drop}
 use lib.Seq.{sets, drop-cons}
 use lib.Dec.{T, leb}
-use Rattle.model.specs.Format.{Region, noRegion, regions, newest, offsetAt}
+use Rattle.model.specs.Format.{Region, noRegion, regions, newest, headerWords, wordEnd}
 use Rattle.model.specs.Image.{sizeOf}
 use Rattle.model.specs.Calls.{allSmall}
 use Rattle.laws.proofs.Tests.{first, second, le-of}
@@ -26,8 +26,11 @@ small-size (r ∷ rs) [] h = omega arith
 small-size [] [] h = omega arith
 small-size [] (c ∷ cs) h = omega arith
 
-pub little : (cs : List ℕ) → T (allSmall (regions newest) cs) → sizeOf (regions newest) cs ≤ 667648
-little cs h = small-size (regions newest) cs h
+-- so an image's words are counted in one word
+pub counts : (cs : List ℕ) → T (allSmall (regions newest) cs) → headerWords + sizeOf (regions newest) cs < wordEnd
+counts cs h =
+    let m = small-size (regions newest) cs h in
+    omega (arith, m)
 
 -- the tests, the words and the header from region k + 1 on
 abbrev pub smallFrom : ℕ → List ℕ → Bool
@@ -35,6 +38,14 @@ smallFrom k cs = allSmall (drop k (regions newest)) (drop k cs)
 
 abbrev pub sizeFrom : ℕ → List ℕ → ℕ
 sizeFrom k cs = sizeOf (drop k (regions newest)) (drop k cs)
+
+abbrev pub sizeAll : List ℕ → ℕ
+sizeAll cs = headerWords + sizeFrom 0 cs
+
+-- c records of region k + 1 counted: what is left, and no word too far
+pub record SizeOn (cs : List ℕ) (k at c : ℕ) : Type 0 where
+  pub next : at + getD widths k 0 * c + sizeFrom (k + 1) cs ≡ sizeAll cs
+  pub within : at + getD widths k 0 * c < wordEnd
 
 abbrev pub headFrom : (k at : ℕ) → List ℕ → List ℕ → List ℕ
 headFrom k at cs w = headedFrom (1 + k) at (drop k (regions newest)) (drop k cs) w
@@ -53,8 +64,8 @@ module _ (cs : List ℕ) (n : length cs ≡ regionsMany) (k : ℕ) (h : k < regi
   size-here-on : sizeFrom k cs ≡ getD widths k 0 * getD cs k 0 + sizeFrom (k + 1) cs
   size-here-on = rw (width-at k, region-here, size-here)
 
-  pub size-on : (at c all : ℕ) → c ≡ getD cs k 0 → at + sizeFrom k cs ≡ all → at + getD widths k 0 * c + sizeFrom (k + 1) cs ≡ all
-  size-on at c all e h = rw e (omega (arith, h, size-here-on))
+  pub size-on : (at c : ℕ) → c ≡ getD cs k 0 → T (allSmall (regions newest) cs) → at + sizeFrom k cs ≡ sizeAll cs → SizeOn cs k at c
+  size-on at c e t h = record { next = rw e (omega (arith, h, size-here-on)); within = rw e (omega (arith, h, size-here-on, counts cs t)) }
 
   pub head-on : (at : ℕ) (w : List ℕ) → headFrom k at cs w ≡ headFrom (k + 1) (at + getD widths k 0 * getD cs k 0) cs (sets w (9 + 3 * k) (at ∷ getD cs k 0 ∷ 0 ∷ []))
   unfolding headedFrom

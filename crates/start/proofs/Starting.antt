@@ -1,16 +1,17 @@
 -- An image that is started: every word zeroed, and the header written over the zeroes. Assumes nothing.
-use Prim.Native.Nat.{ℕ, suc, _+_, _*_, _≤_, _<_}
+use Prim.Native.Nat.{ℕ, suc, _+_, _≤_, _<_}
 use native.Mathlib.Omega.{arith}
 use native.Mathlib.Nat.{sub-zero, add-zero}
 use native.Mathlib.Numerals.{add-one}
 use mathlib.Core.Path.{_≡_, refl, sym, ap, _∙_}
-use mathlib.Core.List.{List, [], _∷_, _++_, append-assoc, append-nil}
-use mathlib.Core.Bool.{Bool, true, false, _&&_, and-assoc, and-true}
+use mathlib.Core.List.{List, [], _∷_, _++_, append-nil}
+use mathlib.Core.Bool.{Bool, true, false, not, _&&_, and-assoc, and-true}
 use lib.ListN.{length, getD, set, drop, replicate, length-append, length-drop, length-replicate, replicate-append-replicate}
 use lib.Seq.{drop-cons, drop-length, set-at, append-snoc}
-use lib.Dec.{T, eqb, leb}
+use lib.Dec.{T}
+use borrow.Author.Tests.{not-true, not-false}
 use Rattle.model.specs.Lists.{allOf, flat}
-use Rattle.model.specs.Format.{regions, newest, headerWords, idle, namesMost}
+use Rattle.model.specs.Format.{regions, newest, headerWords, idle}
 use Rattle.model.specs.Table.{Capacities, stateOf}
 use Rattle.model.specs.Parts.{triples, bodies, image}
 use Rattle.model.specs.Image.{region, packed, sizeOf, inOrder, imageLength, frontAs, partsOf, wordsAs, words}
@@ -63,12 +64,12 @@ free c = sizeOf (regions newest) (inOrder c)
 empty-words : (names functor : ℕ) (c : Capacities)
     → words (emptyTable names functor c) ≡ (frontAs idle (emptyTable names functor c) ++ triples headerWords (partsOf (emptyTable names functor c))) ++ replicate (free c) 0
 unfolding wordsAs image frontAs triples bodies partsOf packed region flat emptyTable stateOf
-empty-words names functor c = simp (sub-zero, add-zero, blanks-are, append-assoc, replicate-append-replicate, append-nil)
+empty-words names functor c = simp (sub-zero, add-zero, blanks-are, replicate-append-replicate, append-nil)
 
 pub started : (names functor : ℕ) (c : Capacities) (n : ℕ) → n ≡ imageLength c → headed (replicate n 0) names functor c ≡ words (emptyTable names functor c)
 unfolding headed headedFrom frontAs triples partsOf packed emptyTable
 started names functor c n e =
-    ap (λ (l : List ℕ). headed l names functor c) (ap (λ (i : ℕ). replicate i 0) e ∙ sym (replicate-append-replicate {A = ℕ} 27 (free c) 0))
+    ap (λ (l : List ℕ). headed l names functor c) (ap (λ (i : ℕ). replicate i 0) e ∙ sym (replicate-append-replicate {A = ℕ} headerWords (free c) 0))
     ∙ sym (empty-words names functor c)
 
 -- the tests of a start, and what they say
@@ -80,18 +81,31 @@ pub tests-are : (small size many least : Bool) → small ≡ true → (size && m
 unfolding allOf
 tests-are small size many least e = rw e (simp (and-assoc, and-true))
 
-pub right-size : (names functor : ℕ) (c : Capacities) (w : List ℕ) → T (capacitiesRight names functor c w) → length w ≡ imageLength c
-unfolding capacitiesRight
-right-size names functor c w h = sym (eq-of _ _ (nth _ 1 h))
-
 module _ (names functor : ℕ) (c : Capacities) (w : List ℕ) where
-  pub start-refused : capacitiesRight names functor c w ≡ false → (toldRefusal BadCapacity ≡ start names functor c w .says) × (w ≡ start names functor c w .words)
-  unfolding start replyOf provided
-  start-refused e = (rw e, rw e)
+  right-size : T (capacitiesRight names functor c w) → length w ≡ imageLength c
+  unfolding capacitiesRight
+  right-size h = sym (eq-of _ _ (nth _ 1 h))
 
-  pub start-done : capacitiesRight names functor c w ≡ true → (u v : List ℕ) → u ≡ replicate (length w) 0 → v ≡ headed u names functor c
-      → (done [] ≡ start names functor c w .says) × (v ≡ start names functor c w .words)
-  unfolding start replyOf provided
-  start-done e u v p q =
-      let h = right-size names functor c w (of-true _ e) in
-      (rw e, rw e (q ∙ ap (λ (l : List ℕ). headed l names functor c) p ∙ started names functor c (length w) h))
+  module _ (r : Bool) (said : r ≡ capacitiesRight names functor c w) where
+    right : not r ≡ false → T (capacitiesRight names functor c w)
+    right e = of-true _ (sym said ∙ not-false r e)
+
+    pub room-for-header : not r ≡ false → headerWords ≤ length w
+    room-for-header e = omega (arith, right-size (right e))
+
+    pub sizes-small : not r ≡ false → T (allSmall (regions newest) (inOrder c))
+    unfolding capacitiesRight
+    sizes-small e = nth _ 0 (right e)
+
+    pub start-refused : not r ≡ true → (toldRefusal BadCapacity ≡ start names functor c w .says) × (w ≡ start names functor c w .words)
+    unfolding start replyOf provided
+    start-refused e =
+        let f : capacitiesRight names functor c w ≡ false = sym said ∙ not-true r e in
+        (rw f, rw f)
+
+    pub start-done : not r ≡ false → (u v : List ℕ) → u ≡ replicate (length w) 0 → v ≡ headed u names functor c
+        → (done [] ≡ start names functor c w .says) × (v ≡ start names functor c w .words)
+    unfolding start replyOf provided
+    start-done e u v p q =
+        let t : capacitiesRight names functor c w ≡ true = sym said ∙ not-false r e in
+        (rw t, rw t (q ∙ ap (λ (l : List ℕ). headed l names functor c) p ∙ started names functor c (length w) (right-size (right e))))

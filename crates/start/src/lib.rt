@@ -4,7 +4,7 @@ use model::Refusal;
 use model::Reply;
 ghost use mathlib.Core.Path.{_≡_};
 ghost use mathlib.Core.List.{[], _∷_};
-ghost use Prim.Native.Nat.{_+_, _-_, _*_, _≤_, _<_};
+ghost use Prim.Native.Nat.{_+_, _*_, _≤_};
 ghost use lib.ListN.{length, set, replicate};
 ghost use lib.Seq.{sets};
 ghost use lib.Dec.{T, eqb, leb};
@@ -15,7 +15,7 @@ ghost use Rattle.model.specs.Calls.{allSmall, start as startOf};
 ghost use Rattle.model.specs.Told.{toldReply};
 ghost use Rattle.image.specs.Stores.{capacitiesOf, headedFrom};
 
-// Whether no capacity is over its maximum: the capacities are in the regions' order.
+// Whether no capacity is over its maximum. Here and below, `sizes` are the capacities, in the regions' order.
 fn all_small(sizes: &[u32]) -> bool
     requires { ⌜ length (now sizes) ≡ length (regions newest) ⌝ }
     ensures { λ r. ⌜ r ≡ allSmall (regions newest) (now (sizes .entry)) ⌝ }

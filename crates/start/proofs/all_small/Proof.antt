@@ -7,8 +7,8 @@ use mathlib.Core.Bool.{Bool, _&&_, and-assoc, and-true}
 use denote.Ref.{now}
 use Rattle.model.specs.Format.{regions, newest}
 use Rattle.model.specs.Calls.{allSmall}
-use Rattle.start.proofs.Sizes.{smallFrom, small-on, small-end}
 use Rattle.image.proofs.Listed.{regionsMany}
+use Rattle.start.proofs.Sizes.{smallFrom, small-on, small-end}
 use Rattle.start.proofs.all_small.Statement.{statement}
 use Rattle.start.proofs.all_small.Tie as tie
 use Rattle.start.proofs.all_small.Reads as reads

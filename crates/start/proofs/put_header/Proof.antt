@@ -5,12 +5,10 @@ use borrow.Author.Needs.{needs}
 use mathlib.Core.Path.{_≡_, refl, sym, ap, _∙_}
 use mathlib.Core.List.{List}
 use denote.Ref.{now}
-use lib.ListN.{length, set}
-use Rattle.model.specs.Format.{regions, newest, headerWords, formatAt, formatWord, namesAt, functorAt}
-use Rattle.model.specs.Image.{sizeOf}
-use Rattle.image.specs.Stores.{headedFrom}
-use Rattle.start.proofs.Sizes.{sizeFrom, headFrom, size-on, head-on, head-end, little}
+use lib.ListN.{length}
+use Rattle.model.specs.Format.{headerWords}
 use Rattle.image.proofs.Listed.{regionsMany}
+use Rattle.start.proofs.Sizes.{sizeFrom, sizeAll, SizeOn, headFrom, size-on, head-on, head-end, counts}
 use Rattle.start.proofs.put_header.Statement.{statement}
 use Rattle.start.proofs.put_header.Tie as tie
 use Rattle.start.proofs.put_header.Reads as reads
@@ -20,7 +18,7 @@ use Rattle.start.proofs.put_front.Reads as put-front-reads
 use Rattle.start.proofs.put_region.Reads as put-region-reads
 
 abbrev Inv-loop : tie.InvT-loop
-Inv-loop image₀ names functor sizes at₀ k₀ image at k = (k ≤ regionsMany) × (at + sizeFrom k sizes ≡ headerWords + sizeOf (regions newest) sizes) × (length image ≡ length image₀) × (headFrom k at sizes image ≡ headFrom 0 headerWords sizes image₀)
+Inv-loop image₀ names functor sizes at₀ k₀ image at k = (k ≤ regionsMany) × (at + sizeFrom k sizes ≡ sizeAll sizes) × (length image ≡ length image₀) × (headFrom k at sizes image ≡ headFrom 0 headerWords sizes image₀)
 
 abbrev μ-loop : tie.MeasureT-loop
 μ-loop image₀ names functor sizes at₀ k₀ image at k = regionsMany - k
@@ -34,7 +32,7 @@ loop-holds c = (omega arith, refl, refl, refl)
 cast-put-region : tie.Need-cast-put-region Inv-loop μ-loop
 cast-put-region c =
     let s = c .before .before .before .before .before .before .before .before .before in
-    let m = little (now (s .args .sizes)) (s .pre .1 .1) in
+    let m = counts (now (s .args .sizes)) (s .pre .1 .1) in
     omega (arith, c .before .before .loop .inv .1)
 
 mul-put-region : tie.Need-mul-put-region Inv-loop μ-loop
@@ -61,21 +59,18 @@ shared-slice-read-wide c = search needs
 wide-requires : tie.Need-wide-requires Inv-loop μ-loop
 wide-requires c κs = search needs
 
-mul-at-2 : tie.Need-mul-at-2 Inv-loop μ-loop
-mul-at-2 c =
+on : (c : lts.After-wide (put-front-reads.Asked, put-front-reads.Learnt, put-region-reads.Asked, put-region-reads.Learnt, wide-reads.Asked, wide-reads.Learnt) reads.Pre reads.Post Inv-loop μ-loop)
+    → SizeOn (now (c .before .before .before .before .before .before .before .before .before .before .before .before .before .before .before .args .sizes)) (c .before .before .before .before .before .before .before .before .loop .k) (c .before .before .before .before .before .before .before .before .loop .at) (c .wide .result)
+on c =
     let l = c .before .before .before .before .before .before .before .before .loop in
     let s = c .before .before .before .before .before .before .before .before .before .before .before .before .before .before .before in
-    let m = little (now (s .args .sizes)) (s .pre .1 .1) in
-    let on = size-on (now (s .args .sizes)) (s .pre .1 .0) (l .k) (omega arith) (l .at) (c .wide .result) _ (c .wide .ensures) (l .inv .1) in
-    omega (arith, on)
+    size-on (now (s .args .sizes)) (s .pre .1 .0) (l .k) (omega arith) (l .at) (c .wide .result) (c .wide .ensures) (s .pre .1 .1) (l .inv .1)
+
+mul-at-2 : tie.Need-mul-at-2 Inv-loop μ-loop
+mul-at-2 c = omega (arith, on c .within)
 
 add-at : tie.Need-add-at Inv-loop μ-loop
-add-at c =
-    let l = c .before .before .before .before .before .before .before .before .loop in
-    let s = c .before .before .before .before .before .before .before .before .before .before .before .before .before .before .before in
-    let m = little (now (s .args .sizes)) (s .pre .1 .1) in
-    let on = size-on (now (s .args .sizes)) (s .pre .1 .0) (l .k) (omega arith) (l .at) (c .wide .result) _ (c .wide .ensures) (l .inv .1) in
-    omega (arith, on)
+add-at c = omega (arith, on c .within)
 
 add-k : tie.Need-add-k Inv-loop μ-loop
 add-k c = search needs
@@ -87,9 +82,8 @@ loop-again : tie.Need-loop-again Inv-loop μ-loop
 loop-again c =
     let l = c .before .before .before .before .before .before .before .before .loop in
     let s = c .before .before .before .before .before .before .before .before .before .before .before .before .before .before .before in
-    let on = size-on (now (s .args .sizes)) (s .pre .1 .0) (l .k) (omega arith) (l .at) (c .wide .result) _ (c .wide .ensures) (l .inv .1) in
     let w = head-on (now (s .args .sizes)) (s .pre .1 .0) (l .k) (omega arith) (l .at) (l .image) in
-    (omega arith, on, c .before .before .before .image2 .given ∙ l .inv .2, rw (c .before .before .before .before .put-region .ensures, c .wide .ensures) (sym w ∙ l .inv .3))
+    (omega arith, on c .next, c .before .before .before .image2 .given ∙ l .inv .2, rw (c .before .before .before .before .put-region .ensures, c .wide .ensures) (sym w ∙ l .inv .3))
 
 same-length : tie.Need-same-length Inv-loop μ-loop
 same-length c = c .before .loop .inv .2 ∙ c .before .before .before .image .given

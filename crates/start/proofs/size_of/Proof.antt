@@ -1,13 +1,11 @@
 -- `size_of`: the words counted so far leave those of the regions that are left.
-use Prim.Native.Nat.{ℕ, _+_, _-_, _≤_}
+use Prim.Native.Nat.{_+_, _-_, _≤_}
 use native.Mathlib.Omega.{arith}
 use borrow.Author.Needs.{needs}
-use mathlib.Core.Path.{_≡_, refl, sym, ap, _∙_}
+use mathlib.Core.Path.{_≡_, refl}
 use denote.Ref.{now}
-use Rattle.model.specs.Format.{regions, newest, headerWords}
-use Rattle.model.specs.Image.{sizeOf}
-use Rattle.start.proofs.Sizes.{sizeFrom, size-on, little}
 use Rattle.image.proofs.Listed.{regionsMany}
+use Rattle.start.proofs.Sizes.{sizeFrom, sizeAll, SizeOn, size-on}
 use Rattle.start.proofs.size_of.Statement.{statement}
 use Rattle.start.proofs.size_of.Tie as tie
 use Rattle.start.proofs.size_of.Reads as reads
@@ -15,7 +13,7 @@ use Rattle.start.proofs.size_of.Lts as lts
 use Rattle.image.proofs.wide.Reads as wide-reads
 
 abbrev Inv-loop : tie.InvT-loop
-Inv-loop sizes at₀ k₀ at k = (k ≤ regionsMany) × (at + sizeFrom k sizes ≡ headerWords + sizeOf (regions newest) sizes)
+Inv-loop sizes at₀ k₀ at k = (k ≤ regionsMany) × (at + sizeFrom k sizes ≡ sizeAll sizes)
 
 abbrev μ-loop : tie.MeasureT-loop
 μ-loop sizes at₀ k₀ at k = regionsMany - k
@@ -38,21 +36,18 @@ shared-slice-read-wide c = search needs
 wide-requires : tie.Need-wide-requires Inv-loop μ-loop
 wide-requires c κs = search needs
 
-mul-at-2 : tie.Need-mul-at-2 Inv-loop μ-loop
-mul-at-2 c =
+on : (c : lts.After-wide (wide-reads.Asked, wide-reads.Learnt) reads.Pre reads.Post Inv-loop μ-loop)
+    → SizeOn (now (c .before .before .before .before .before .args .sizes)) (c .before .before .before .loop .k) (c .before .before .before .loop .at) (c .wide .result)
+on c =
     let l = c .before .before .before .loop in
     let s = c .before .before .before .before .before in
-    let m = little (now (s .args .sizes)) (s .pre .1) in
-    let on = size-on (now (s .args .sizes)) (s .pre .0) (l .k) (omega arith) (l .at) (c .wide .result) _ (c .wide .ensures) (l .inv .1) in
-    omega (arith, on)
+    size-on (now (s .args .sizes)) (s .pre .0) (l .k) (omega arith) (l .at) (c .wide .result) (c .wide .ensures) (s .pre .1) (l .inv .1)
+
+mul-at-2 : tie.Need-mul-at-2 Inv-loop μ-loop
+mul-at-2 c = omega (arith, on c .within)
 
 add-at : tie.Need-add-at Inv-loop μ-loop
-add-at c =
-    let l = c .before .before .before .loop in
-    let s = c .before .before .before .before .before in
-    let m = little (now (s .args .sizes)) (s .pre .1) in
-    let on = size-on (now (s .args .sizes)) (s .pre .0) (l .k) (omega arith) (l .at) (c .wide .result) _ (c .wide .ensures) (l .inv .1) in
-    omega (arith, on)
+add-at c = omega (arith, on c .within)
 
 add-k : tie.Need-add-k Inv-loop μ-loop
 add-k c = search needs
@@ -61,11 +56,7 @@ loop-less : tie.Need-loop-less Inv-loop μ-loop
 loop-less c = search needs
 
 loop-again : tie.Need-loop-again Inv-loop μ-loop
-loop-again c =
-    let l = c .before .before .before .loop in
-    let s = c .before .before .before .before .before in
-    let on = size-on (now (s .args .sizes)) (s .pre .0) (l .k) (omega arith) (l .at) (c .wide .result) _ (c .wide .ensures) (l .inv .1) in
-    (omega arith, on)
+loop-again c = (omega arith, on c .next)
 
 returns : tie.Need-returns Inv-loop μ-loop
 returns c =

@@ -1,13 +1,9 @@
 -- `start`: starts an image, or refuses and leaves every word as found.
-use Rattle.start.proofs.Starting.{right-size, start-refused, start-done}
+use Rattle.start.proofs.Starting.{room-for-header, sizes-small, start-refused, start-done}
 use Rattle.image.specs.Stores.{capacitiesOf, headed}
-use Rattle.laws.proofs.Tests.{of-true, nth}
-use Rattle.model.specs.Image.{imageLength}
 use Rattle.model.specs.Calls.{capacitiesRight}
-use borrow.Author.Tests.{not-true, not-false}
 use denote.Ref.{now}
-use lib.ListN.{length}
-use mathlib.Core.Path.{_≡_, refl, sym, _∙_}
+use mathlib.Core.Path.{refl}
 use native.Mathlib.Omega.{arith}
 use borrow.Author.Needs.{needs}
 use Rattle.start.proofs.start.Statement.{statement}
@@ -31,7 +27,7 @@ returns : tie.Need-returns
 unfolding capacitiesRight
 returns c =
     let a = c .before .before .before .before .before .args in
-    start-refused (a .names) (a .functor) (capacitiesOf (a .capacities)) (now (a .image)) (sym (c .before .capacities-right .ensures) ∙ not-true _ (c .if1 .taken))
+    start-refused (a .names) (a .functor) (capacitiesOf (a .capacities)) (now (a .image)) _ (c .before .capacities-right .ensures) (c .if1 .taken)
 
 clear-requires : tie.Need-clear-requires
 clear-requires c κs = search needs
@@ -43,11 +39,12 @@ put-header-requires : tie.Need-put-header-requires
 unfolding capacitiesRight
 put-header-requires c κs =
     let a = c .before .before .before .before .before .before .before .before .before .before .before .args in
-    let w = now (a .image) in
     let k = capacitiesOf (a .capacities) in
-    let h = of-true _ (sym (c .before .before .before .before .before .before .before .capacities-right .ensures) ∙ not-false _ (c .before .before .before .before .before .before .if1 .left)) in
-    let n : length w ≡ imageLength k = right-size (a .names) (a .functor) k w h in
-    (omega (arith, c .before .before .before .image .given), (refl, nth _ 0 h))
+    let w = now (a .image) in
+    let said = c .before .before .before .before .before .before .before .capacities-right .ensures in
+    let e = c .before .before .before .before .before .before .if1 .left in
+    let room = room-for-header (a .names) (a .functor) k w _ said e in
+    (omega (arith, room, c .before .before .before .image .given), (refl, sizes-small (a .names) (a .functor) k w _ said e))
 
 same-length-2 : tie.Need-same-length-2
 same-length-2 c = search needs
@@ -56,8 +53,7 @@ returns-2 : tie.Need-returns-2
 unfolding capacitiesRight headed
 returns-2 c =
     let a = c .before .before .before .before .before .before .before .before .before .before .before .before .before .before .args in
-    let h = sym (c .before .before .before .before .before .before .before .before .before .before .capacities-right .ensures) ∙ not-false _ (c .before .before .before .before .before .before .before .before .before .if1 .left) in
-    start-done (a .names) (a .functor) (capacitiesOf (a .capacities)) (now (a .image)) h _ _ (c .before .before .before .before .before .before .before .clear .ensures) (c .before .before .put-header .ensures)
+    start-done (a .names) (a .functor) (capacitiesOf (a .capacities)) (now (a .image)) _ (c .before .before .before .before .before .before .before .before .before .before .capacities-right .ensures) (c .before .before .before .before .before .before .before .before .before .if1 .left) _ _ (c .before .before .before .before .before .before .before .clear .ensures) (c .before .before .put-header .ensures)
 
 pub start-spec : {M : Type 1} → statement M
 start-spec =
