@@ -23,6 +23,12 @@ sub-loop c = search needs
 read-record-requires : tie.Need-read-record-requires Inv-loop μ-loop
 read-record-requires c κs = search needs
 
+mul-field : tie.Need-mul-field Inv-loop μ-loop
+mul-field c = search needs
+
+sub-field : tie.Need-sub-field Inv-loop μ-loop
+sub-field c = search needs
+
 part-field-start : tie.Need-part-field-start Inv-loop μ-loop
 part-field-start c = search needs
 
@@ -57,6 +63,8 @@ fields-spec =
     loop-holds
     sub-loop
     read-record-requires
+    mul-field
+    sub-field
     part-field-start
     part-field-end
     field-requires
