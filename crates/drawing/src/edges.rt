@@ -1,92 +1,93 @@
 // Components, bounds, pairs asked equal and the pair that failed, as edges.
 use crate::header;
 use crate::header::Break;
-use crate::header::word;
 use crate::text::print_name;
-use model::Attrset;
-use model::Dynamic;
-use model::Entry;
-use model::Record;
-use telling::print;
-use telling::print_number;
+use printing::print;
+use printing::print_two;
+use printing::print_word;
+use table_words::bound_word;
+use table_words::entry_word;
+use table_words::equals_word;
+use table_words::field_word;
+use table_words::word;
+
+// The labels of components, by their number in the list of them.
+const ELEMENT: u32 = 0;
+
+const PARAM: u32 = 1;
+
+const INNER: u32 = 3;
+
+const NOT: u32 = 4;
+
+const LEFT: u32 = 5;
 
 // The components of entry n.
-pub fn draw_components(list: &[u8], image: &[u32], n: u32, e: Entry) {
-    match e {
-        Entry::Variable { .. } => {}
-        Entry::Primitive(_) => {}
-        Entry::List(element) => draw_component(n, element, b"element"),
-        Entry::Lambda { param, body } => draw_two(n, param, b"param", body, b"body"),
-        Entry::AttrSet(a) => draw_attrset(list, image, n, a),
-        Entry::Named { inner, .. } => draw_component(n, inner, b"inner"),
-        Entry::Neg(inner) => draw_component(n, inner, b"not"),
-        Entry::Inter(left, right) => draw_two(n, left, b"left", right, b"right"),
-        Entry::Union(left, right) => draw_two(n, left, b"left", right, b"right"),
+pub fn draw_components(list: &[u8], image: &[u32], n: u32) {
+    let x = entry_word(image, n, image::format::X_WORD);
+    let y = entry_word(image, n, image::format::Y_WORD);
+    match entry_word(image, n, image::format::KIND_WORD) {
+        image::format::LIST => draw_component(n, x, ELEMENT),
+        image::format::LAMBDA => draw_two(n, x, y, PARAM),
+        image::format::ATTRSET => draw_attrset(list, image, n, x, y),
+        image::format::NAMED => draw_component(n, x, INNER),
+        image::format::NEG => draw_component(n, x, NOT),
+        image::format::INTER | image::format::UNION => draw_two(n, x, y, LEFT),
+        _ => {}
     }
 }
 
 // An edge up to its label.
 fn begin(from: u32, to: u32) {
-    print(b"  ");
-    print_number(from);
-    print(b" -> ");
-    print_number(to);
-    print(b" [label=\"");
+    print_two(b"  % -> % [label=\"", from, to);
 }
 
-// A component.
-fn draw_component(owner: u32, part: u32, label: &[u8]) {
+// A component; its label by its number.
+fn draw_component(owner: u32, part: u32, label: u32) {
     begin(owner, part);
-    print(label);
+    print_word(b"element|param|body|inner|not|left|right", label);
     print(b"\"];\n");
 }
 
-// Two components.
-fn draw_two(owner: u32, first: u32, first_label: &[u8], second: u32, second_label: &[u8]) {
-    draw_component(owner, first, first_label);
-    draw_component(owner, second, second_label);
+// Two components; the second has the label after the first one's.
+fn draw_two(owner: u32, first: u32, second: u32, label: u32) {
+    draw_component(owner, first, label);
+    draw_component(owner, second, std::num::wrapping_add_u32(label, 1));
 }
 
-// An attrset's fields, and its dynamic type.
-fn draw_attrset(list: &[u8], image: &[u32], n: u32, a: Attrset) {
-    draw_fields(list, image, n, a);
-    let dynamic = a.dynamic;
-    match dynamic {
-        Dynamic::Absent => {}
-        Dynamic::Present(d) => draw_dynamic(n, d),
+// An attrset's fields, so many from the first on, and its dynamic type.
+fn draw_attrset(list: &[u8], image: &[u32], n: u32, first: u32, count: u32) {
+    draw_fields(list, image, n, first, count);
+    if image::says_dynamic(entry_word(image, n, image::format::FLAGS_WORD)) {
+        draw_dynamic(n, entry_word(image, n, image::format::Z_WORD));
     }
 }
 
 // Each field.
-fn draw_fields(list: &[u8], image: &[u32], owner: u32, a: Attrset) {
-    let mut n: u32 = 0;
-    while n < a.count {
-        draw_field(list, image, owner, std::num::wrapping_add_u32(a.first, n));
-        n += 1;
+fn draw_fields(list: &[u8], image: &[u32], owner: u32, first: u32, count: u32) {
+    let mut i: u32 = 0;
+    while i < count {
+        draw_field(list, image, owner, std::num::wrapping_add_u32(first, i));
+        i += 1;
     }
 }
 
 // A field record.
 fn draw_field(list: &[u8], image: &[u32], owner: u32, n: u32) {
-    match sheafwinch::record(image, image::format::FIELDS, n) {
-        Record::Field {
-            name,
-            entry,
-            optional,
-        } => draw_named(list, owner, name, entry, optional),
-        _ => {}
-    }
+    draw_named(
+        list,
+        owner,
+        field_word(image, n, image::format::NAME_WORD),
+        field_word(image, n, image::format::ENTRY_WORD),
+        field_word(image, n, image::format::OPTIONAL_WORD),
+    );
 }
 
 // A field: an optional one has a question mark and an empty arrow.
 fn draw_named(list: &[u8], owner: u32, name: u32, entry: u32, optional: u32) {
     begin(owner, entry);
     print_name(list, name);
-    if optional == image::format::OPTIONAL {
-        print(b"?\", arrowhead=empty];\n");
-    } else {
-        print(b"\"];\n");
-    }
+    print_word(b"\"];\n|?\", arrowhead=empty];\n", optional);
 }
 
 // A dynamic type: its arrow is no field's.
@@ -97,37 +98,32 @@ fn draw_dynamic(owner: u32, dynamic: u32) {
 
 // Each bound, and each pair asked equal.
 pub fn draw_pairs(image: &[u32]) {
-    draw_region(
-        image,
-        image::format::BOUNDS,
-        word(image, image::format::BOUNDS_COUNT_AT),
-    );
-    draw_region(
-        image,
-        image::format::EQUALS,
-        word(image, image::format::EQUALS_COUNT_AT),
-    );
+    draw_bounds(image, word(image, image::format::BOUNDS_COUNT_AT));
+    draw_equals(image, word(image, image::format::EQUALS_COUNT_AT));
 }
 
-// A region's records, so many.
-fn draw_region(image: &[u32], region: u32, count: u32) {
+// So many bounds.
+fn draw_bounds(image: &[u32], count: u32) {
     let mut n: u32 = 0;
     while n < count {
-        draw_record(image, region, n);
+        draw_bound(
+            bound_word(image, n, image::format::VARIABLE_WORD),
+            bound_word(image, n, image::format::SIDE_WORD),
+            bound_word(image, n, image::format::BOUND_WORD),
+        );
         n += 1;
     }
 }
 
-// A record.
-fn draw_record(image: &[u32], region: u32, n: u32) {
-    match sheafwinch::record(image, region, n) {
-        Record::Bound {
-            variable,
-            side,
-            bound,
-        } => draw_bound(variable, side, bound),
-        Record::Equal { left, right } => draw_equal(left, right),
-        _ => {}
+// So many pairs asked equal.
+fn draw_equals(image: &[u32], count: u32) {
+    let mut n: u32 = 0;
+    while n < count {
+        draw_equal(
+            equals_word(image, n, image::format::EQUAL_LEFT_WORD),
+            equals_word(image, n, image::format::EQUAL_RIGHT_WORD),
+        );
+        n += 1;
     }
 }
 
@@ -135,11 +131,10 @@ fn draw_record(image: &[u32], region: u32, n: u32) {
 fn draw_bound(variable: u32, side: u32, bound: u32) {
     if side == image::format::LOWER {
         begin(bound, variable);
-        print(b"lower");
     } else {
         begin(variable, bound);
-        print(b"upper");
     }
+    print_word(b"lower|upper", side);
     print(b"\", style=dashed, color=\"#2f5f8f\", fontcolor=\"#2f5f8f\"];\n");
 }
 

@@ -1,7 +1,12 @@
 // The header's words, and the graph's label, which tells them.
+use libc::STDOUT_FILENO;
 use names::Counted;
-use telling::print;
-use telling::print_number;
+use printing::print;
+use printing::print_one;
+use printing::print_word;
+use printing::write_each;
+use table_words::counts;
+use table_words::word;
 
 // The break words: the failure that the table keeps, and in kind whether it keeps one.
 pub struct Break {
@@ -9,11 +14,6 @@ pub struct Break {
     pub sub: u32,
     pub sup: u32,
     pub name: u32,
-}
-
-// A word, or 0 past the last.
-pub fn word(image: &[u32], at: usize) -> u32 {
-    if at < image.len() { image[at] } else { 0 }
 }
 
 // Whether the list is well formed and has as many names as the image.
@@ -48,43 +48,30 @@ pub fn is_broken_at(image: &[u32], n: u32) -> bool {
 // How the graph looks, and its label.
 pub fn draw_label(image: &[u32]) {
     print(
-        b"  graph [rankdir=TB, nodesep=0.4, ranksep=0.6, fontname=\"sans-serif\", fontsize=11];\n",
+        b"  graph [rankdir=TB, nodesep=0.4, ranksep=0.6, fontname=\"sans-serif\", fontsize=11];
+  node [shape=box, style=\"rounded,filled\", fillcolor=\"#e8f0f8\", fontname=\"sans-serif\", fontsize=12];
+  edge [fontname=\"sans-serif\", fontsize=10];
+  label=\"",
     );
-    print(
-        b"  node [shape=box, style=\"rounded,filled\", fillcolor=\"#e8f0f8\", fontname=\"sans-serif\", fontsize=12];\n",
-    );
-    print(b"  edge [fontname=\"sans-serif\", fontsize=10];\n");
-    print(b"  label=\"");
     print_state(image);
     print_counts(image);
-    print(b"\";\n");
 }
 
 // Whether a question is asked, whether one has failed, and the level.
 fn print_state(image: &[u32]) {
-    if word(image, image::format::STATE_AT) == image::format::IDLE {
-        print(b"idle");
-    } else {
-        print(b"asked");
-    }
+    print_word(b"idle|asked", word(image, image::format::STATE_AT));
     if word(image, image::format::BREAK_KIND_AT) != image::format::UNBROKEN {
         print(b", broken");
     }
-    print_count(b", level ", image, image::format::LEVEL_AT);
+    print_one(b", level %", word(image, image::format::LEVEL_AT));
 }
 
 // How many records each region has.
 fn print_counts(image: &[u32]) {
-    print_count(b"\\nentries ", image, image::format::ENTRIES_COUNT_AT);
-    print_count(b", fields ", image, image::format::FIELDS_COUNT_AT);
-    print_count(b", bounds ", image, image::format::BOUNDS_COUNT_AT);
-    print_count(b", visited ", image, image::format::VISITED_COUNT_AT);
-    print_count(b", pending ", image, image::format::PENDING_COUNT_AT);
-    print_count(b", equals ", image, image::format::EQUALS_COUNT_AT);
-}
-
-// A word, after what it is.
-fn print_count(what: &[u8], image: &[u32], at: usize) {
-    print(what);
-    print_number(word(image, at));
+    let numbers = counts(image);
+    write_each(
+        STDOUT_FILENO,
+        b"\\nentries %, fields %, bounds %, visited %, pending %, equals %\";\n",
+        &numbers,
+    );
 }

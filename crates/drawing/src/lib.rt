@@ -6,7 +6,7 @@ mod header;
 mod nodes;
 mod text;
 
-use telling::print;
+use printing::print;
 
 // Draws the table in the image: a graph of every entry, component, bound and equal pair, or one that says that it is no table.
 pub fn draw(list: &[u8], image: &[u32]) {

@@ -3,21 +3,16 @@
 // begin one of HTML's characters.
 use libc::STDOUT_FILENO;
 use model::Reply;
-use telling::print;
-use telling::print_number;
+use printing::print;
+use printing::print_one;
+use printing::print_word;
 
 // A name, or its number where the list has no such name.
 pub fn print_name(list: &[u8], n: u32) {
     match names::check_name(list, n) {
         Reply::Done => print_text(names::show(list, n)),
-        Reply::Refused(_) => print_unnamed(n),
+        Reply::Refused(_) => print_one(b"name %", n),
     }
-}
-
-// A name by its number.
-fn print_unnamed(n: u32) {
-    print(b"name ");
-    print_number(n);
 }
 
 // Each byte.
@@ -32,12 +27,17 @@ fn print_text(s: &[u8]) {
 // A byte.
 fn print_byte(b: u8) {
     match b {
-        b'"' => print(b"\\\""),
-        b'\\' => print(b"\\\\\\\\"),
-        b'&' => print(b"&amp;"),
+        b'"' => print_special(0),
+        b'\\' => print_special(1),
+        b'&' => print_special(2),
         b' '..=b'~' => print_plain(b),
         _ => print_hex(b),
     }
+}
+
+// A byte that has a meaning in DOT.
+fn print_special(n: u32) {
+    print_word(b"\\\"|\\\\\\\\|&amp;", n);
 }
 
 // A byte as it stands.

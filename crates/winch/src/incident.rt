@@ -1,8 +1,8 @@
 // The customer's incident as a script: a request that lacks a field is resent, a check that is timed out goes on, and a shape that
 // meets its own bound ends.
-use crate::print::print;
 use crate::run;
 use libc::STDOUT_FILENO;
+use printing::write;
 
 // Runs the script, or prints it.
 pub fn tell_incident(is_shown: bool) {
@@ -84,7 +84,7 @@ ask 0 0
 // Runs a script, or prints it.
 fn run_or_print(is_shown: bool, script: &[u8]) {
     if is_shown {
-        print(STDOUT_FILENO, script);
+        write(STDOUT_FILENO, script);
     } else {
         run(STDOUT_FILENO, script, false);
     }

@@ -1,56 +1,35 @@
 // The lines of a script, one after the other: a verb and its words.
-use crate::answers::tell;
-use crate::args::Arg;
-use crate::args::read;
-use crate::args::read_all;
-use crate::attrsets::attr;
-use crate::attrsets::named;
-use crate::desk::ECHO;
-use crate::desk::IS_PLAIN;
-use crate::desk::LINE;
-use crate::desk::LIST;
-use crate::desk::WORDS;
-use crate::dump::dump;
-use crate::help::print_verbs;
-use crate::makes::go_to_level;
-use crate::makes::make;
-use crate::makes::move_level;
-use crate::makes::put;
-use crate::name_lists::give;
-use crate::name_lists::tell_compared;
-use crate::name_lists::tell_found;
-use crate::name_lists::tell_name;
-use crate::print::print;
-use crate::questions::ALL;
-use crate::questions::Question;
-use crate::questions::abandon;
-use crate::questions::ask;
-use crate::questions::work;
-use crate::reads::tell_check;
-use crate::reads::tell_count;
-use crate::reads::tell_disjoint;
-use crate::reads::tell_entry;
-use crate::reads::tell_operator;
-use crate::reads::tell_record;
-use crate::reads::tell_state;
-use crate::settings::set_limit;
-use crate::settings::tell_time;
+use crate::asking::Question;
+use crate::asking::ask;
+use crate::table_verbs::obey_table;
 use crate::tables::start;
 use crate::tables::start_largest;
-use crate::text::Word;
-use crate::text::bytes_of;
-use crate::text::content_end;
-use crate::text::count_words;
-use crate::text::is;
-use crate::text::line_end;
-use crate::text::next_word;
-use crate::text::part;
-use crate::verbs;
-use crate::verbs::takes;
-use crate::words::wide;
-use crate::wrong::wrong;
-use crate::wrong::wrong_after;
-use crate::wrong::wrong_count;
+use printing::index_of;
+use printing::place_of;
+use printing::write;
+use script::args::read_all;
+use script::desk::ECHO;
+use script::desk::LINE;
+use script::desk::LIST;
+use script::desk::WORDS;
+use script::first_words;
+use script::first_words::Said;
+use script::first_words::said_from;
+use script::text::bytes_of;
+use script::text::content_end;
+use script::text::part;
+use script::verbs;
+use script::verbs::takes;
+use script::wrong::NO_QUESTION;
+use script::wrong::NO_VERB;
+use script::wrong::NOT_BEFORE;
+use script::wrong::NOT_ONCE;
+use script::wrong::wrong;
+use script::wrong::wrong_after;
+use script_names::answers::tell;
+use script_names::name_lists::LIST_MOST;
+use script_names::name_lists::give;
+use table_words::wide;
 ghost use Prim.Native.Nat.{_≤_};
 ghost use lib.ListN.{length};
 
@@ -59,12 +38,12 @@ pub fn run(
     fd: i32,
     script: &[u8],
     desk: &mut [u32; 10256],
-    list: &mut [u8; 73731],
+    list: &mut [u8; LIST_MOST],
     words: &mut [u32],
 ) {
     let mut at = 0;
     while at < script.len() {
-        let end = line_end(script, at);
+        let end = place_of(script, at, b'\n');
         run_line(fd, script, desk, list, words, at, end);
         at = end + 1;
     }
@@ -75,7 +54,7 @@ fn run_line(
     fd: i32,
     script: &[u8],
     desk: &mut [u32; 10256],
-    list: &mut [u8; 73731],
+    list: &mut [u8; LIST_MOST],
     words: &mut [u32],
     at: usize,
     end: usize,
@@ -94,7 +73,7 @@ fn run_line(
 // A line as it stands.
 fn show_line(fd: i32, line: &[u8]) {
     if 0 < line.len() {
-        print(fd, b"> ");
+        write(fd, b"> ");
     }
     tell(fd, line);
 }
@@ -105,32 +84,18 @@ fn obey(
     script: &[u8],
     text: &[u8],
     desk: &mut [u32; 10256],
-    list: &mut [u8; 73731],
+    list: &mut [u8; LIST_MOST],
     words: &mut [u32],
     at: usize,
     end: usize,
 ) {
-    let first = next_word(text, at);
-    if first.end <= first.start {
-        return;
+    let s = said_from(text, at);
+    let form = s.form;
+    match form {
+        first_words::NOTHING => {}
+        first_words::VERB => obey_verb(fd, script, text, desk, list, words, s, end),
+        _ => obey_question(fd, text, desk, list, words, s),
     }
-    let is_held = is(bytes_of(text, first), b"held");
-    let second = if is_held {
-        next_word(text, first.end)
-    } else {
-        first
-    };
-    let is_open = is(bytes_of(text, second), b"open");
-    let verb = if is_open {
-        next_word(text, second.end)
-    } else {
-        second
-    };
-    let number = verbs::verb(bytes_of(text, verb));
-    if is_held | is_open {
-        return obey_question(fd, text, desk, list, words, verb, number, is_held, is_open);
-    }
-    obey_verb(fd, script, text, desk, list, words, verb, number, end);
 }
 
 // Obeys a question that is held or stays open.
@@ -138,46 +103,55 @@ fn obey_question(
     fd: i32,
     text: &[u8],
     desk: &mut [u32; 10256],
-    list: &[u8; 73731],
+    list: &[u8; LIST_MOST],
     words: &mut [u32],
-    verb: Word,
-    number: u32,
-    is_held: bool,
-    is_open: bool,
+    s: Said,
 ) {
-    if verb.end <= verb.start {
-        return wrong(fd, desk, b"held and open stand before ask or equal");
-    }
-    if !is_question(number) {
-        return tell_misplaced(fd, desk, bytes_of(text, verb));
-    }
     let mut args = [0u32; 6];
-    if !read_all(fd, desk, text, verb, 2, &mut args) {
+    if !read_question(fd, desk, text, s, &mut args) {
         return;
     }
-    let q = Question {
-        is_held: is_held,
-        is_open: is_open,
-        is_equal: number == verbs::EQUAL,
-        left: args[0],
-        right: args[1],
-    };
+    let q = question(s, args[0], args[1]);
     ask_table(fd, text, desk, list, words, q);
+}
+
+// Reads the entries of a question that is held or stays open; else what is wrong is told.
+fn read_question(
+    fd: i32,
+    desk: &mut [u32; 10256],
+    text: &[u8],
+    s: Said,
+    args: &mut [u32; 6],
+) -> bool {
+    let verb = s.verb;
+    if verb.end <= verb.start {
+        wrong(fd, desk, NO_QUESTION);
+        return false;
+    }
+    if !is_question(s.number) {
+        tell_misplaced(fd, desk, bytes_of(text, verb));
+        return false;
+    }
+    read_all(fd, desk, text, verb, 2, args)
+}
+
+// A question as it is said.
+fn question(s: Said, left: u32, right: u32) -> Question {
+    Question {
+        is_held: s.is_held,
+        is_open: s.is_open,
+        is_equal: s.number == verbs::EQUAL,
+        left: left,
+        right: right,
+    }
 }
 
 // A word that is neither ask nor equal, behind held or open.
 fn tell_misplaced(fd: i32, desk: &mut [u32; 10256], word: &[u8]) {
-    let is_held = is(word, b"held");
-    let is_open = is(word, b"open");
-    if is_held | is_open {
-        return wrong(fd, desk, b"held stands before open, each once");
+    if index_of(b"held|open", word) < 2 {
+        return wrong(fd, desk, NOT_ONCE);
     }
-    wrong_after(
-        fd,
-        desk,
-        b"held and open stand before ask or equal, not before",
-        word,
-    );
+    wrong_after(fd, desk, NOT_BEFORE, word);
 }
 
 // Asks in the table's words, and with its names.
@@ -185,7 +159,7 @@ fn ask_table(
     fd: i32,
     text: &[u8],
     desk: &[u32; 10256],
-    list: &[u8; 73731],
+    list: &[u8; LIST_MOST],
     words: &mut [u32],
     q: Question,
 ) {
@@ -211,19 +185,18 @@ fn obey_verb(
     script: &[u8],
     text: &[u8],
     desk: &mut [u32; 10256],
-    list: &mut [u8; 73731],
+    list: &mut [u8; LIST_MOST],
     words: &mut [u32],
-    verb: Word,
-    number: u32,
+    s: Said,
     end: usize,
 ) {
+    let verb = s.verb;
+    let number = s.number;
     match number {
-        verbs::NEW | verbs::START => {
-            begin(fd, script, text, desk, list, words, verb, number, end)
-        }
+        verbs::NEW | verbs::START => begin(fd, script, text, desk, list, words, s, end),
         verbs::NAMES => give(fd, desk, text, verb),
-        verbs::NONE => wrong_after(fd, desk, b"no verb", bytes_of(text, verb)),
-        _ => obey_table(fd, text, desk, list, words, verb, number),
+        verbs::NONE => wrong_after(fd, desk, NO_VERB, bytes_of(text, verb)),
+        _ => obey_table(fd, text, desk, list, words, verb, s.number),
     }
 }
 
@@ -233,17 +206,17 @@ fn begin(
     script: &[u8],
     text: &[u8],
     desk: &mut [u32; 10256],
-    list: &mut [u8; 73731],
+    list: &mut [u8; LIST_MOST],
     words: &mut [u32],
-    verb: Word,
-    number: u32,
+    s: Said,
     end: usize,
 ) {
+    let verb = s.verb;
     let mut args = [0u32; 6];
-    if !read_all(fd, desk, text, verb, takes(number), &mut args) {
+    if !read_all(fd, desk, text, verb, takes(s.number), &mut args) {
         return;
     }
-    if number == verbs::NEW {
+    if s.number == verbs::NEW {
         start_largest(fd, script, desk, list, words, end);
     } else {
         start(fd, script, desk, list, words, end, &args);
@@ -251,184 +224,11 @@ fn begin(
 }
 
 // Draws the table on standard output.
-pub fn draw(desk: &[u32; 10256], list: &[u8; 73731], words: &[u32]) {
+pub fn draw(desk: &[u32; 10256], list: &[u8; LIST_MOST], words: &[u32]) {
     let bytes = wide(desk[LIST]);
     let size = wide(desk[WORDS]);
     if words.len() < size {
         return;
     }
     drawing::draw(part(list, 0, bytes), &words[0..size]);
-}
-
-// Obeys a verb in the table's words, and with its names.
-fn obey_table(
-    fd: i32,
-    text: &[u8],
-    desk: &mut [u32; 10256],
-    list: &[u8; 73731],
-    words: &mut [u32],
-    verb: Word,
-    number: u32,
-) {
-    let bytes = wide(desk[LIST]);
-    let size = wide(desk[WORDS]);
-    if words.len() < size {
-        return;
-    }
-    if number < verbs::NEW {
-        obey_numbers(
-            fd,
-            text,
-            desk,
-            part(list, 0, bytes),
-            &mut words[0..size],
-            verb,
-            number,
-        );
-    } else {
-        obey_words(
-            fd,
-            text,
-            desk,
-            part(list, 0, bytes),
-            &mut words[0..size],
-            verb,
-            number,
-        );
-    }
-}
-
-// Obeys a verb that takes other words than a fixed number of numbers.
-fn obey_words(
-    fd: i32,
-    text: &[u8],
-    desk: &mut [u32; 10256],
-    names: &[u8],
-    words: &mut [u32],
-    verb: Word,
-    number: u32,
-) {
-    match number {
-        verbs::ATTR => attr(fd, desk, text, names, words, verb),
-        verbs::NAMED => named(fd, desk, text, names, words, verb),
-        verbs::FIND => tell_found(fd, desk, text, names, verb),
-        verbs::RECORD => tell_record(fd, text, desk, names, words, verb),
-        verbs::WORK => obey_work(fd, text, desk, names, words, verb),
-        verbs::LIMIT => set_limit(fd, text, desk, verb),
-        _ => {}
-    }
-}
-
-// `work N` or `work`: an instalment, or all that is left.
-fn obey_work(
-    fd: i32,
-    text: &[u8],
-    desk: &mut [u32; 10256],
-    names: &[u8],
-    words: &mut [u32],
-    verb: Word,
-) {
-    let got = count_words(text, verb.end);
-    if 1 < got {
-        return wrong_count(fd, desk, b"work", b"1 number or none", got);
-    }
-    if got == 0 {
-        return work(fd, text, desk, names, words, ALL);
-    }
-    let Arg::Number(budget) = read(fd, desk, text, next_word(text, verb.end)) else {
-        return;
-    };
-    work(fd, text, desk, names, words, budget);
-}
-
-// Obeys a verb that takes a fixed number of numbers.
-fn obey_numbers(
-    fd: i32,
-    text: &[u8],
-    desk: &mut [u32; 10256],
-    names: &[u8],
-    words: &mut [u32],
-    verb: Word,
-    number: u32,
-) {
-    let mut args = [0u32; 6];
-    if !read_all(fd, desk, text, verb, takes(number), &mut args) {
-        return;
-    }
-    match number {
-        verbs::VAR..=verbs::UNION => make(fd, names, words, number, &args),
-        verbs::MARK..=verbs::SETLEVEL => put(fd, names, words, number, &args),
-        verbs::LEVEL..=verbs::ABANDON => obey_moves(fd, text, desk, names, words, number, &args),
-        verbs::ENTRY..=verbs::DOT => obey_reads(fd, text, desk, names, words, number, &args),
-        _ => obey_settings(fd, desk, number, args[0]),
-    }
-}
-
-// Obeys a verb of levels or questions.
-fn obey_moves(
-    fd: i32,
-    text: &[u8],
-    desk: &mut [u32; 10256],
-    names: &[u8],
-    words: &mut [u32],
-    number: u32,
-    args: &[u32; 6],
-) {
-    match number {
-        verbs::LEVEL => go_to_level(fd, desk, names, words, args[0]),
-        verbs::ENTER => move_level(fd, names, words, true),
-        verbs::EXIT => move_level(fd, names, words, false),
-        verbs::ABANDON => abandon(fd, names, words),
-        _ => ask(
-            fd,
-            text,
-            desk,
-            names,
-            words,
-            Question {
-                is_held: false,
-                is_open: false,
-                is_equal: number == verbs::EQUAL,
-                left: args[0],
-                right: args[1],
-            },
-        ),
-    }
-}
-
-// Obeys a verb that reads.
-fn obey_reads(
-    fd: i32,
-    text: &[u8],
-    desk: &[u32; 10256],
-    names: &[u8],
-    words: &[u32],
-    number: u32,
-    args: &[u32; 6],
-) {
-    match number {
-        verbs::ENTRY => tell_entry(fd, text, desk, names, words, args[0]),
-        verbs::STATE => tell_state(fd, names, words),
-        verbs::COUNT => tell_count(fd, words),
-        verbs::DISJOINT => tell_disjoint(fd, names, words, args[0], args[1]),
-        verbs::OP => tell_operator(fd, args[0], args[1], args[2]),
-        verbs::NAME => tell_name(fd, names, args[0]),
-        verbs::COMPARE => tell_compared(fd, names, args[0], args[1]),
-        verbs::CHECK => tell_check(fd, words),
-        verbs::DOT => drawing::draw(names, words),
-        verbs::DUMP => dump(fd, text, desk, names, words, false),
-        verbs::DUMPS => dump(fd, text, desk, names, words, true),
-        _ => {}
-    }
-}
-
-// Obeys a setting.
-fn obey_settings(fd: i32, desk: &mut [u32; 10256], number: u32, n: u32) {
-    match number {
-        verbs::PLAIN => desk[IS_PLAIN] = n,
-        verbs::ECHO => desk[ECHO] = n,
-        verbs::TIME => tell_time(desk),
-        verbs::HELP => print_verbs(fd),
-        _ => {}
-    }
 }

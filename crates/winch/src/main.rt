@@ -1,36 +1,27 @@
 // The command line of the engine: runs a script, one verb to a line, and prints its answers.
-mod answers;
-mod args;
+mod asking;
 mod attrsets;
-mod desk;
-mod dump;
-mod help;
 mod incident;
-mod labels;
 mod lines;
 mod makes;
-mod name_lists;
-mod print;
-mod questions;
 mod reads;
-mod settings;
-mod shown;
+mod table_verbs;
 mod tables;
-mod text;
-mod verbs;
 mod words;
-mod wrong;
 
-use help::print_help;
-use help::print_usage;
 use incident::tell_incident;
 use libc::STDERR_FILENO;
 use libc::STDIN_FILENO;
 use libc::STDOUT_FILENO;
-use print::print;
-use print::print_number;
-use text::is;
-use text::part;
+use printing::index_of;
+use printing::is;
+use printing::write;
+use printing::write_one;
+use script::desk;
+use script::help::print_help;
+use script::help::print_usage;
+use script::text::part;
+use script_names::name_lists;
 
 // A script has at most so many bytes.
 const SCRIPT_MOST: usize = 1048576;
@@ -74,27 +65,17 @@ fn obey_one(word: &[u8]) {
     if asks_help(word) {
         return print_help(STDOUT_FILENO);
     }
-    if is(word, b"incident") {
-        return tell_incident(false);
+    match index_of(b"incident|dot|show", word) {
+        0 => tell_incident(false),
+        1 => run_path(STDERR_FILENO, b"-", true),
+        2 => print_usage(STDERR_FILENO),
+        _ => run_path(STDOUT_FILENO, word, false),
     }
-    if is(word, b"dot") {
-        return run_path(STDERR_FILENO, b"-", true);
-    }
-    if is(word, b"show") {
-        return print_usage(STDERR_FILENO);
-    }
-    run_path(STDOUT_FILENO, word, false);
 }
 
 // Whether an argument asks for help.
 fn asks_help(word: &[u8]) -> bool {
-    if is(word, b"help") {
-        return true;
-    }
-    if is(word, b"--help") {
-        return true;
-    }
-    is(word, b"-h")
+    index_of(b"help|--help|-h", word) < 3
 }
 
 // Two arguments.
@@ -112,7 +93,7 @@ fn obey_two(first: &[u8], second: &[u8]) {
 
 // Tells why the system refused something.
 fn fail(what: &[u8]) {
-    print(STDERR_FILENO, b"winch: ");
+    write(STDERR_FILENO, b"winch: ");
     os::fail(what);
 }
 
@@ -155,9 +136,9 @@ fn is_unreadable(input: i32) -> bool {
 // Runs a script that was read, unless it is too long.
 fn run_script(fd: i32, script: &[u8; 1048577], size: usize, path: &[u8], is_drawn: bool) {
     if SCRIPT_MOST < size {
-        print(STDERR_FILENO, b"winch: ");
-        print(STDERR_FILENO, path);
-        print(STDERR_FILENO, b": a script has at most 1048576 bytes\n");
+        write(STDERR_FILENO, b"winch: ");
+        write(STDERR_FILENO, path);
+        write(STDERR_FILENO, b": a script has at most 1048576 bytes\n");
         return;
     }
     run(fd, part(script, 0, size), is_drawn);
@@ -181,11 +162,9 @@ fn tell_wrong(count: u32) {
     if count == 0 {
         return;
     }
-    print(STDERR_FILENO, b"winch: ");
-    print_number(STDERR_FILENO, count);
     if count == 1 {
-        print(STDERR_FILENO, b" line was wrong\n");
+        write(STDERR_FILENO, b"winch: 1 line was wrong\n");
     } else {
-        print(STDERR_FILENO, b" lines were wrong\n");
+        write_one(STDERR_FILENO, b"winch: % lines were wrong\n", count);
     }
 }

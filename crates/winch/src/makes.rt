@@ -1,21 +1,22 @@
 // The verbs that make an entry, and those that put a mark, a bound or a level.
-use crate::answers::tell_done;
-use crate::answers::tell_made;
-use crate::answers::tell_number;
-use crate::answers::tell_refusal;
-use crate::verbs;
-use crate::words::entries;
-use crate::words::word;
-use crate::wrong::wrong;
 use model::Made;
 use model::Reply;
+use script::verbs;
+use script::wrong::MANY_LEVELS;
+use script::wrong::wrong;
+use script_names::answers::tell_done;
+use script_names::answers::tell_made;
+use script_names::answers::tell_number;
+use script_names::answers::tell_refusal;
+use table_words::entries;
+use table_words::word;
 
 // As many levels as `level` goes up or down on one line.
 const LEVELS_MOST: u32 = 1000;
 
 // Makes an entry and tells its number.
-pub fn make(fd: i32, names: &[u8], words: &mut [u32], verb: u32, args: &[u32; 6]) {
-    let made = made(words, verb, args[0], args[1]);
+pub fn make(fd: i32, names: &[u8], words: &mut [u32], verb: u32, x: u32, y: u32) {
+    let made = made(words, verb, x, y);
     tell_made(fd, names, made, entries(words));
 }
 
@@ -33,8 +34,8 @@ fn made(words: &mut [u32], verb: u32, x: u32, y: u32) -> Made {
 }
 
 // Puts a mark, a bound or a variable's level; nothing is told when it is done.
-pub fn put(fd: i32, names: &[u8], words: &mut [u32], verb: u32, args: &[u32; 6]) {
-    let reply = reply_of(words, verb, args[0], args[1], args[2]);
+pub fn put(fd: i32, names: &[u8], words: &mut [u32], verb: u32, x: u32, y: u32, z: u32) {
+    let reply = reply_of(words, verb, x, y, z);
     tell_done(fd, names, reply);
 }
 
@@ -75,11 +76,7 @@ pub fn go_to_level(fd: i32, desk: &mut [u32; 10256], names: &[u8], words: &mut [
     let is_up = current < level;
     let count = distance(current, level);
     if LEVELS_MOST < count {
-        return wrong(
-            fd,
-            desk,
-            b"level goes at most 1000 levels up or down on one line",
-        );
+        return wrong(fd, desk, MANY_LEVELS);
     }
     tell_done(fd, names, move_levels(words, is_up, count));
 }

@@ -1,71 +1,31 @@
 // The verbs that start a table.
-use crate::answers::tell_number;
-use crate::answers::tell_refusal;
-use crate::desk::GIVEN;
-use crate::desk::LABELS;
-use crate::desk::LIST;
-use crate::desk::TABLE_GIVEN;
-use crate::desk::WORDS;
-use crate::labels::narrow;
-use crate::name_lists::count_of;
-use crate::name_lists::functor_of;
-use crate::name_lists::make_list;
-use crate::text::part;
-use crate::words::wide;
 use image::Capacities;
 use model::Reply;
-
-// The largest capacities.
-fn largest() -> Capacities {
-    Capacities {
-        entries: image::format::ENTRIES_MOST,
-        fields: image::format::FIELDS_MOST,
-        bounds: image::format::BOUNDS_MOST,
-        visited: image::format::VISITED_MOST,
-        pending: image::format::PENDING_MOST,
-        equals: image::format::EQUALS_MOST,
-    }
-}
-
-// The capacities of a line.
-pub fn capacities(args: &[u32; 6]) -> Capacities {
-    Capacities {
-        entries: args[0],
-        fields: args[1],
-        bounds: args[2],
-        visited: args[3],
-        pending: args[4],
-        equals: args[5],
-    }
-}
-
-// How many words a table of these capacities has.
-fn size_of(c: Capacities) -> usize {
-    image::format::HEADER_WORDS
-        + image::format::ENTRY_WIDTH * wide(c.entries)
-        + image::format::FIELD_WIDTH * wide(c.fields)
-        + image::format::BOUND_WIDTH * wide(c.bounds)
-        + image::format::VISITED_WIDTH * wide(c.visited)
-        + image::format::PENDING_WIDTH * wide(c.pending)
-        + image::format::EQUALS_WIDTH * wide(c.equals)
-}
-
-// Whether no capacity is over its maximum.
-pub fn is_small(c: Capacities) -> bool {
-    (c.entries <= image::format::ENTRIES_MOST)
-        & (c.fields <= image::format::FIELDS_MOST)
-        & (c.bounds <= image::format::BOUNDS_MOST)
-        & (c.visited <= image::format::VISITED_MOST)
-        & (c.pending <= image::format::PENDING_MOST)
-        & (c.equals <= image::format::EQUALS_MOST)
-}
+use script::desk::GIVEN;
+use script::desk::LABELS;
+use script::desk::LIST;
+use script::desk::TABLE_GIVEN;
+use script::desk::WORDS;
+use script::text::narrow;
+use script::text::part;
+use script_names::answers::tell_number;
+use script_names::answers::tell_refusal;
+use script_names::name_lists::LIST_MOST;
+use script_names::name_lists::capacities;
+use script_names::name_lists::count_of;
+use script_names::name_lists::functor_of;
+use script_names::name_lists::make_list;
+use table_words::is_small;
+use table_words::largest;
+use table_words::size_of;
+use table_words::wide;
 
 // `new`: starts the largest table; nothing is told when it is done.
 pub fn start_largest(
     fd: i32,
     script: &[u8],
     desk: &mut [u32; 10256],
-    list: &mut [u8; 73731],
+    list: &mut [u8; LIST_MOST],
     words: &mut [u32],
     next: usize,
 ) {
@@ -80,7 +40,7 @@ pub fn start(
     fd: i32,
     script: &[u8],
     desk: &mut [u32; 10256],
-    list: &mut [u8; 73731],
+    list: &mut [u8; LIST_MOST],
     words: &mut [u32],
     next: usize,
     args: &[u32; 6],
@@ -95,24 +55,34 @@ pub fn start(
 fn start_table(
     script: &[u8],
     desk: &mut [u32; 10256],
-    list: &mut [u8; 73731],
+    list: &mut [u8; LIST_MOST],
     words: &mut [u32],
     next: usize,
     c: Capacities,
 ) -> Reply {
     let size = size_of(c);
     if !is_small(c) {
-        return start_in(b"", &mut words[0..0], c);
+        return refuse(words, c);
     }
     if words.len() < size {
-        return start_in(b"", &mut words[0..0], c);
+        return refuse(words, c);
     }
     let bytes = make_list(script, desk, list, next);
+    keep_start(desk, bytes, size);
+    start_in(part(list, 0, wide(bytes)), &mut words[0..size], c)
+}
+
+// Why a table of these capacities is not started.
+fn refuse(words: &mut [u32], c: Capacities) -> Reply {
+    start_in(b"", &mut words[0..0], c)
+}
+
+// Keeps how large the table and its name list are.
+fn keep_start(desk: &mut [u32; 10256], bytes: u32, size: usize) {
     desk[LIST] = bytes;
     desk[TABLE_GIVEN] = desk[GIVEN];
     desk[LABELS] = 0;
     desk[WORDS] = narrow(size);
-    start_in(part(list, 0, wide(bytes)), &mut words[0..size], c)
 }
 
 // Starts a table in the words that are lent.

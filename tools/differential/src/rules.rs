@@ -1,5 +1,5 @@
 //! Which rule works a pair, told from its two entries as they stand: the first that fits, in 01's order. Entries keep their kinds and
-//! components, so that a rule tells the same after the question as at its step. As crates/replay tells it, under the same names.
+//! components, so that a rule tells the same after the question as at its step. As crates/replay_test tells it, under the same names.
 
 use crate::image::Image;
 use shared::image::Entry;

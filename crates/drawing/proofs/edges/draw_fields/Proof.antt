@@ -5,10 +5,10 @@ use Rattle.drawing.proofs.edges.draw_fields.Statement.{statement}
 use Rattle.drawing.proofs.edges.draw_fields.Tie as tie
 
 abbrev Inv-loop : tie.InvT-loop
-Inv-loop list image owner a n₀ n = n ≤ a .count
+Inv-loop list image owner first count i₀ i = i ≤ count
 
 abbrev μ-loop : tie.MeasureT-loop
-μ-loop list image owner a n₀ n = a .count - n
+μ-loop list image owner first count i₀ i = count - i
 
 loop-holds : tie.Need-loop-holds Inv-loop μ-loop
 loop-holds c = search needs
@@ -19,8 +19,8 @@ wrapping-add-u32-requires c κs = search needs
 draw-field-requires : tie.Need-draw-field-requires Inv-loop μ-loop
 draw-field-requires c κs = search needs
 
-add-n : tie.Need-add-n Inv-loop μ-loop
-add-n c = search needs
+add-i : tie.Need-add-i Inv-loop μ-loop
+add-i c = search needs
 
 loop-less : tie.Need-loop-less Inv-loop μ-loop
 loop-less c = search needs
@@ -40,7 +40,7 @@ draw-fields-spec =
     loop-holds
     wrapping-add-u32-requires
     draw-field-requires
-    add-n
+    add-i
     loop-less
     loop-again
     returns)

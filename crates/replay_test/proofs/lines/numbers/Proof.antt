@@ -1,0 +1,47 @@
+-- `replay_test::lines::numbers` is safe and ends: what is left of the text falls. Assumes nothing.
+use Prim.Native.Nat.{_≤_, _-_}
+use lib.ListN.{length}
+use borrow.Author.Needs.{needs}
+use Rattle.replay_test.proofs.lines.numbers.Statement.{statement}
+use Rattle.replay_test.proofs.lines.numbers.Tie as tie
+
+abbrev Inv-loop : tie.InvT-loop
+Inv-loop text line₀ count₀ at₀ line count at = Unit {0}
+
+abbrev μ-loop : tie.MeasureT-loop
+μ-loop text line₀ count₀ at₀ line count at = length text - at
+
+loop-holds : tie.Need-loop-holds Inv-loop μ-loop
+loop-holds c = search needs
+
+shared-slice-read-next : tie.Need-shared-slice-read-next Inv-loop μ-loop
+shared-slice-read-next c = search needs
+
+next-requires : tie.Need-next-requires Inv-loop μ-loop
+next-requires c κs = search needs
+
+add-at : tie.Need-add-at Inv-loop μ-loop
+add-at c = search needs
+
+loop-less : tie.Need-loop-less Inv-loop μ-loop
+loop-less c = search needs
+
+loop-again : tie.Need-loop-again Inv-loop μ-loop
+loop-again c = search needs
+
+returns : tie.Need-returns Inv-loop μ-loop
+returns c = search needs
+
+pub numbers-spec : {M : Type 1} → statement M
+numbers-spec =
+    tie.close
+    (tie.spec
+    Inv-loop
+    μ-loop
+    loop-holds
+    shared-slice-read-next
+    next-requires
+    add-at
+    loop-less
+    loop-again
+    returns)
