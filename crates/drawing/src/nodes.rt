@@ -36,7 +36,10 @@ fn print_what(image: &[u32], n: u32) {
         image::format::VARIABLE => print_one(b"variable, level %", x),
         image::format::PRIMITIVE => print_primitive(x),
         image::format::ATTRSET => print_attrset(entry_word(image, n, image::format::FLAGS_WORD)),
-        image::format::NAMED => print_one(b"named, label %", entry_word(image, n, image::format::Y_WORD)),
+        image::format::NAMED => print_one(
+            b"named, label %",
+            entry_word(image, n, image::format::Y_WORD),
+        ),
         _ => print_word(b"||list|lambda|||neg|inter|union", kind),
     }
 }

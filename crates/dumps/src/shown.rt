@@ -15,7 +15,13 @@ pub fn print_entry(fd: i32, text: &[u8], desk: &[u32; 10256], names: &[u8], word
     write_number(fd, kind);
     match kind {
         image::format::ATTRSET => print_attrset(fd, names, words, n),
-        image::format::NAMED => print_named(fd, text, desk, x, entry_word(words, n, image::format::Y_WORD)),
+        image::format::NAMED => print_named(
+            fd,
+            text,
+            desk,
+            x,
+            entry_word(words, n, image::format::Y_WORD),
+        ),
         image::format::LAMBDA | image::format::INTER | image::format::UNION => {
             write_two(fd, b" % %", x, entry_word(words, n, image::format::Y_WORD))
         }

@@ -47,7 +47,10 @@ pub fn visited_word(words: &[u32], n: u32, which: usize) -> u32
     requires { ⌜ which ≤ 7 ⌝ }
 {
     let start = wide(word(words, image::format::VISITED_OFFSET_AT));
-    word(words, start + image::format::VISITED_WIDTH * wide(n) + which)
+    word(
+        words,
+        start + image::format::VISITED_WIDTH * wide(n) + which,
+    )
 }
 
 // A word of a pair asked equal.
