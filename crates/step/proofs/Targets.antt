@@ -12,7 +12,7 @@ use Rattle.model.specs.Making.{Making, spreadAt, spreadOf, putEntry, newEntry, 
 use Rattle.model.specs.Shapes.{unionMember}
 use Rattle.model.specs.Rules.{target}
 use Rattle.laws.specs.Good.{Good, Shallow}
-use Rattle.laws.proofs.Entries.{new-length}
+use Rattle.laws.proofs.NewEntries.{new-length}
 use Rattle.laws.proofs.Stores.{entries-lead}
 use Rattle.laws.proofs.Negation.{Grown, Deep, neg-grown, neg-deep}
 use Rattle.image.specs.Laid.{Laid}

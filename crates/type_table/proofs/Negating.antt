@@ -10,7 +10,8 @@ use Rattle.model.specs.Table.{Entry, Table, withEntries, entryAt}
 use Rattle.model.specs.Image.{table}
 use Rattle.model.specs.Making.{Making, spreadAt, spreadOf, putEntry, newEntry, withNegation, cachedAs, makeNeg}
 use Rattle.laws.specs.Good.{EntriesGood}
-use Rattle.laws.proofs.Entries.{lt-or-ge, changed-length, new-length, x-known, y-known, spread-known}
+use Rattle.laws.proofs.Entries.{lt-or-ge, changed-length, x-known, y-known, spread-known}
+use Rattle.laws.proofs.NewEntries.{new-length}
 use Rattle.laws.proofs.Undone.{undoable-trans}
 use Rattle.laws.proofs.Negation.{Grown, neg-grown, Deep, deep-within}
 use Rattle.image.specs.Shown.{Shows, Shown, storeOf, entriesOf, fieldsIn}

@@ -13,7 +13,8 @@ use Rattle.model.specs.Formed.{wellFormed}
 use Rattle.model.specs.Making.{Making, spreadAt, spreadOf, putEntry, newEntry, changed, withNegation}
 use Rattle.model.specs.Calls.{Reply}
 use Rattle.model.specs.Told.{Told, done, refused}
-use Rattle.laws.proofs.Entries.{more-length, new-length}
+use Rattle.laws.proofs.Entries.{more-length}
+use Rattle.laws.proofs.NewEntries.{new-length}
 use Rattle.laws.proofs.Formed.{sound-table}
 use Rattle.image.specs.Shown.{Shows, Shown, storeOf, entriesOf, entriesTo}
 use Rattle.image.specs.Records.{entryMade}
