@@ -2,7 +2,7 @@
 use Prim.Native.Nat.{ℕ}
 use mathlib.Core.Path.{_≡_, refl}
 use mathlib.Core.List.{List, [], _∷_}
-use Rattle.model.specs.Bench.{rooms, madeWords, benchTable}
+use Rattle.model.specs.Bench.{holding, madeWords, benchTable}
 use Rattle.model.proofs.Bench.{computed}
 
 -- the words as they are printed, 16 to a line
@@ -27,6 +27,6 @@ printed =
     ∷ 0 ∷ 0 ∷ 0 ∷ 0 ∷ 0 ∷ 0 ∷ 0 ∷ 0 ∷ 0 ∷ 0 ∷ 0 ∷ 0 ∷ 0 ∷ 0 ∷ 0 ∷ 0
     ∷ 0 ∷ 0 ∷ 0 ∷ 0 ∷ 0 ∷ 0 ∷ 0 ∷ 0 ∷ 0 ∷ 0 ∷ 0 ∷ []
 
-pub bench-words : madeWords (rooms 24 8) benchTable ≡ printed
+pub bench-words : madeWords (holding 24 8) benchTable ≡ printed
 unfolding computed
 bench-words = refl

@@ -23,12 +23,12 @@ use Rattle.laws.specs.Demands.{isMore}
 use Rattle.laws.proofs.Refused.{no-steps}
 use Rattle.demands.specs.Started.{Ours, firstTold}
 use Rattle.demands.specs.Meets.{Meets, MeetsStart, Run, ends, goes-on}
-use Rattle.demands.proofs.Known.{Known, known}
+use Rattle.demands.proofs.Numbered.{Numbered, numbered}
 use Rattle.demands.proofs.Demand1.{refused-leaves-all, work-leaves-all, work-keeps-earlier}
 use Rattle.demands.proofs.Demand2 as demand-2
 use Rattle.capi.specs.Answers.{answerOf, flagOf, dynamicOf, capacitiesOf}
 use Rattle.capi.specs.declared.Answer.{Answer}
-use Rattle.capi.proofs.OneToOne.{steps-found, told-once, refusal-fits}
+use Rattle.capi.proofs.OneToOne.{steps-found, told-once, refusal-in-struct}
 use Rattle.capi.proofs.sheafwinch_start.Reads as c-start
 use Rattle.capi.proofs.sheafwinch_work.Reads as c-work
 use Rattle.capi.proofs.sheafwinch_make_variable.Reads as c-make-variable
@@ -50,12 +50,12 @@ use Rattle.capi.proofs.sheafwinch_ask_equal.Reads as c-ask-equal
 use Rattle.capi.proofs.sheafwinch_abandon.Reads as c-abandon
 
 -- an answer whose words are those of what is told, by an outcome that meets the call
-pub record Answers (c : Call) (before : List ℕ) (x : Answer) (after : List ℕ) : Type 0 where
+pub record CallMet (c : Call) (before : List ℕ) (x : Answer) (after : List ℕ) : Type 0 where
   pub told : Told
   pub shows : x ≡ answerOf (x .steps) told
   pub meets : Meets c before told (x .steps) after
 
-met-by : {v w : List ℕ} {x : Answer} (c : Call) (k : ℕ) → k ≡ perform c v .steps → x ≡ answerOf k (perform c v .says) → w ≡ perform c v .words → Answers c v x w
+met-by : {v w : List ℕ} {x : Answer} (c : Call) (k : ℕ) → k ≡ perform c v .steps → x ≡ answerOf k (perform c v .says) → w ≡ perform c v .words → CallMet c v x w
 met-by {v} {w} {x} c k s e f =
     let n : x .steps ≡ k = ap (λ (y : Answer). y .steps) e ∙ steps-found k (perform c v .says) in
     record {
@@ -67,9 +67,9 @@ met-by {v} {w} {x} c k s e f =
 -- a contract under which every outcome meets the call with these arguments
 abbrev pub Met : {K : Type 0} {A X : K → Type 0} → ((κs : K) → A κs → Call) → ((κs : K) → RefT (List ℕ) × A κs → Answer → RefT (List ℕ) × X κs → Type 0) → Type 0
 Met {K} {A} {X} call post =
-    (κs : K) (a : RefT (List ℕ) × A κs) (x : Answer) (e : RefT (List ℕ) × X κs) → post κs a x e → Answers (call κs (a .1)) (a .0 .now) x (e .0 .now)
+    (κs : K) (a : RefT (List ℕ) × A κs) (x : Answer) (e : RefT (List ℕ) × X κs) → post κs a x e → CallMet (call κs (a .1)) (a .0 .now) x (e .0 .now)
 
-met : {v w : List ℕ} {x : Answer} (c : Call) → isWork c ≡ false → x ≡ answerOf 0 (perform c v .says) → w ≡ perform c v .words → Answers c v x w
+met : {v w : List ℕ} {x : Answer} (c : Call) → isWork c ≡ false → x ≡ answerOf 0 (perform c v .says) → w ≡ perform c v .words → CallMet c v x w
 met {v} c n e f = met-by c 0 (sym (no-steps c n v)) e f
 
 pub c-start-met : (κs : _) (a : _) (x : Answer) (e : _) → c-start.Post κs a x e
@@ -131,11 +131,11 @@ pub c-work-met : Met (λ κs a. works (a .0)) c-work.Post
 c-work-met κs a x e p = met-by (works (a .1 .0)) (perform (works (a .1 .0)) (a .0 .now) .steps) refl (p .0) (p .1)
 
 -- What an answer's kind says of what is told: 4 a refusal of 01's, with its number; 3 a failure; 2 MORE; 1 yes; 0 done.
-module _ {c : Call} {v w : List ℕ} {x : Answer} (m : Answers c v x w) where
-  told-known : Known (m .told)
-  told-known = subst (λ (t : Told). Known t) (sym (m .meets .tells)) (known c v)
+module _ {c : Call} {v w : List ℕ} {x : Answer} (m : CallMet c v x w) where
+  told-numbered : Numbered (m .told)
+  told-numbered = subst (λ (t : Told). Numbered t) (sym (m .meets .tells)) (numbered c v)
 
-  refused-by : (t : Told) → x ≡ answerOf (x .steps) t → Known t → Meets c v t (x .steps) w → x .kind ≡ 4
+  refused-by : (t : Told) → x ≡ answerOf (x .steps) t → Numbered t → Meets c v t (x .steps) w → x .kind ≡ 4
       → (r : Refusal) × (x ≡ answerOf (x .steps) (toldRefusal r)) × Meets c v (toldRefusal r) (x .steps) w
   refused-by (done l) e h p k = let z : _≡_ {A = ℕ} 0 4 = sym (ap (λ (y : Answer). y .kind) e) ∙ k in absurd (omega arith)
   refused-by yes e h p k = let z : _≡_ {A = ℕ} 1 4 = sym (ap (λ (y : Answer). y .kind) e) ∙ k in absurd (omega arith)
@@ -144,9 +144,9 @@ module _ {c : Call} {v w : List ℕ} {x : Answer} (m : Answers c v x w) where
   refused-by (refused n l) e (r, d) p k = (r, e ∙ ap (answerOf (x .steps)) d, subst (λ (t : Told). Meets c v t (x .steps) w) d p)
 
   pub c-refused : x .kind ≡ 4 → (r : Refusal) × (x ≡ answerOf (x .steps) (toldRefusal r)) × Meets c v (toldRefusal r) (x .steps) w
-  c-refused = refused-by (m .told) (m .shows) told-known (m .meets)
+  c-refused = refused-by (m .told) (m .shows) told-numbered (m .meets)
 
-  failed-by : (t : Told) → x ≡ answerOf (x .steps) t → Known t → Meets c v t (x .steps) w → x .kind ≡ 3 → (f : Failure) × Meets c v (toldFailure f) (x .steps) w
+  failed-by : (t : Told) → x ≡ answerOf (x .steps) t → Numbered t → Meets c v t (x .steps) w → x .kind ≡ 3 → (f : Failure) × Meets c v (toldFailure f) (x .steps) w
   failed-by (done l) e h p k = let z : _≡_ {A = ℕ} 0 3 = sym (ap (λ (y : Answer). y .kind) e) ∙ k in absurd (omega arith)
   failed-by yes e h p k = let z : _≡_ {A = ℕ} 1 3 = sym (ap (λ (y : Answer). y .kind) e) ∙ k in absurd (omega arith)
   failed-by more e h p k = let z : _≡_ {A = ℕ} 2 3 = sym (ap (λ (y : Answer). y .kind) e) ∙ k in absurd (omega arith)
@@ -154,7 +154,7 @@ module _ {c : Call} {v w : List ℕ} {x : Answer} (m : Answers c v x w) where
   failed-by (refused n l) e h p k = let z : _≡_ {A = ℕ} 4 3 = sym (ap (λ (y : Answer). y .kind) e) ∙ k in absurd (omega arith)
 
   pub c-failed : x .kind ≡ 3 → (f : Failure) × Meets c v (toldFailure f) (x .steps) w
-  c-failed = failed-by (m .told) (m .shows) told-known (m .meets)
+  c-failed = failed-by (m .told) (m .shows) told-numbered (m .meets)
 
   more-by : (t : Told) → x ≡ answerOf (x .steps) t → x .kind ≡ 2 → t ≡ more
   more-by (done l) e k = let z : _≡_ {A = ℕ} 0 2 = sym (ap (λ (y : Answer). y .kind) e) ∙ k in absurd (omega arith)
@@ -175,16 +175,16 @@ module _ {c : Call} {v w : List ℕ} {x : Answer} (m : Answers c v x w) where
   not-more-by (refused n l) e k = refl
 
 -- Demand 1: a refusal of any call but work leaves every word; work refused by 5 or 6 keeps its earlier steps, by another every word.
-pub c-refused-leaves-all : {v w : List ℕ} {x : Answer} (c : Call) → isWork c ≡ false → Answers c v x w → x .kind ≡ 4 → w ≡ v
+pub c-refused-leaves-all : {v w : List ℕ} {x : Answer} (c : Call) → isWork c ≡ false → CallMet c v x w → x .kind ≡ 4 → w ≡ v
 c-refused-leaves-all c n m k = let r = c-refused m k in refused-leaves-all c n (r .0) (r .2)
 
-pub c-work-refused : {v w : List ℕ} {x : Answer} {b : ℕ} → Answers (works b) v x w → x .kind ≡ 4
+pub c-work-refused : {v w : List ℕ} {x : Answer} {b : ℕ} → CallMet (works b) v x w → x .kind ≡ 4
     → (r : Refusal) × (x ≡ answerOf (x .steps) (toldRefusal r)) × (forRoom r ≡ false → (w ≡ v) × (x .steps ≡ 0)) × (forRoom r ≡ true → KeepsEarlier b v (x .steps) w)
 c-work-refused m k = let r = c-refused m k in (r .0, r .1, work-leaves-all (r .0) (r .2), work-keeps-earlier (r .0) (r .2))
 
 -- Demand 2: a held question, where none is asked, in a table started by us: refused with 8 exactly when an earlier question has failed,
 -- with the first failure; with none it is the plain question.
-module _ {v w : List ℕ} {x : Answer} (o : Ours v) (q : Question) (held : q .held ≡ true) (idle : T (not (isAsked (table v)))) (m : Answers (asks q) v x w) where
+module _ {v w : List ℕ} {x : Answer} (o : Ours v) (q : Question) (held : q .held ≡ true) (idle : T (not (isAsked (table v)))) (m : CallMet (asks q) v x w) where
   pub c-held-carries-first : (f : Failure) → firstTold o ≡ some f → (x ≡ answerOf (x .steps) (toldRefusal (brokenBy (breakOf f)))) × (w ≡ v)
   c-held-carries-first f e =
       let k = demand-2.held-carries-first o q held idle (m .meets) f e in
@@ -198,12 +198,12 @@ module _ {v w : List ℕ} {x : Answer} (o : Ours v) (q : Question) (held : q .he
   pub c-held-refused-failed : (k a b n : ℕ) → x ≡ answerOf (x .steps) (toldRefusal (Broken k a b n)) → (f : Failure) × (firstTold o ≡ some f)
   c-held-refused-failed k a b n e =
       let r = c-refused m (ap (λ (y : Answer). y .kind) e) in
-      let d = told-once (x .steps) (x .steps) (toldRefusal (r .0)) (toldRefusal (Broken k a b n)) (refusal-fits (r .0)) (refusal-fits (Broken k a b n)) (sym (r .1) ∙ e) in
+      let d = told-once (x .steps) (x .steps) (toldRefusal (r .0)) (toldRefusal (Broken k a b n)) (refusal-in-struct (r .0)) (refusal-in-struct (Broken k a b n)) (sym (r .1) ∙ e) in
       demand-2.held-refused-failed o q held idle (r .2) k a b n d
 
 -- Demand 3: calls of work for C one after the other, going on while the kind is 2, are a run; crate demands says what it comes to.
-pub c-ends : {bs v w : List ℕ} {x : Answer} (b : ℕ) (m : Answers (works b) v x w) → (x .kind ≡ 2 → ⊥) → Run (b ∷ bs) v (m .told) (x .steps) w
+pub c-ends : {bs v w : List ℕ} {x : Answer} (b : ℕ) (m : CallMet (works b) v x w) → (x .kind ≡ 2 → ⊥) → Run (b ∷ bs) v (m .told) (x .steps) w
 c-ends b m k = ends b (m .meets) (not-more-by m (m .told) (m .shows) k)
 
-pub c-goes-on : {bs v u w : List ℕ} {x : Answer} {a : Told} {n : ℕ} (b : ℕ) → Answers (works b) v x u → x .kind ≡ 2 → Run bs u a n w → Run (b ∷ bs) v a (x .steps + n) w
+pub c-goes-on : {bs v u w : List ℕ} {x : Answer} {a : Told} {n : ℕ} (b : ℕ) → CallMet (works b) v x u → x .kind ≡ 2 → Run bs u a n w → Run (b ∷ bs) v a (x .steps + n) w
 c-goes-on b m k rest = goes-on b (c-more m k) rest

@@ -53,8 +53,8 @@ valuesOf (failed kind vs) = vs
 valuesOf (refused number vs) = vs
 
 -- no more than the struct has room for
-abbrev pub Fits : Told → Type 0
-Fits t = length (valuesOf t) ≤ 8
+abbrev pub InStruct : Told → Type 0
+InStruct t = length (valuesOf t) ≤ 8
 
 -- the values that the struct has
 abbrev pub listed : Answer → List ℕ
@@ -80,7 +80,7 @@ values-found k n s (a ∷ b ∷ c ∷ d ∷ e ∷ f ∷ g ∷ []) h = refl
 values-found k n s (a ∷ b ∷ c ∷ d ∷ e ∷ f ∷ g ∷ i ∷ []) h = refl
 values-found k n s (a ∷ b ∷ c ∷ d ∷ e ∷ f ∷ g ∷ i ∷ j ∷ l) h = absurd (omega arith)
 
-pub told-found : (steps : ℕ) (t : Told) → Fits t → told-back (answerOf steps t) ≡ t
+pub told-found : (steps : ℕ) (t : Told) → InStruct t → told-back (answerOf steps t) ≡ t
 unfolding told-back
 told-found s (done vs) h = ap done (values-found 0 0 s vs h)
 told-found s yes h = refl
@@ -96,7 +96,7 @@ steps-found s (failed n vs) = refl
 steps-found s (refused n vs) = refl
 
 -- equal structs tell the same
-pub told-once : (s u : ℕ) (a b : Told) → Fits a → Fits b → answerOf s a ≡ answerOf u b → a ≡ b
+pub told-once : (s u : ℕ) (a b : Told) → InStruct a → InStruct b → answerOf s a ≡ answerOf u b → a ≡ b
 told-once s u a b h k e = sym (told-found s a h) ∙ ap told-back e ∙ told-found u b k
 
 -- and the same steps
@@ -109,78 +109,78 @@ carried-fits K.Nothing = omega arith
 carried-fits (K.Region region) = omega arith
 carried-fits (K.Break kind sub sup name) = omega arith
 
-pub refusal-fits : (r : Refusal) → Fits (toldRefusal r)
-refusal-fits r = carried-fits (carried r)
+pub refusal-in-struct : (r : Refusal) → InStruct (toldRefusal r)
+refusal-in-struct r = carried-fits (carried r)
 
-pub reply-fits : (r : Reply) → Fits (toldReply r)
-reply-fits Y.Done = omega arith
-reply-fits (Y.Refused r) = refusal-fits r
+pub reply-in-struct : (r : Reply) → InStruct (toldReply r)
+reply-in-struct Y.Done = omega arith
+reply-in-struct (Y.Refused r) = refusal-in-struct r
 
-pub made-fits : (r : Made) → Fits (toldMade r)
-made-fits (M.Number n) = omega arith
-made-fits (M.Refused r) = refusal-fits r
+pub made-in-struct : (r : Made) → InStruct (toldMade r)
+made-in-struct (M.Number n) = omega arith
+made-in-struct (M.Refused r) = refusal-in-struct r
 
-pub failure-fits : (f : Failure) → Fits (toldFailure f)
-failure-fits (F.Mismatch sub sup) = omega arith
-failure-fits (F.MissingField sub sup name) = omega arith
+pub failure-in-struct : (f : Failure) → InStruct (toldFailure f)
+failure-in-struct (F.Mismatch sub sup) = omega arith
+failure-in-struct (F.MissingField sub sup name) = omega arith
 
-pub worked-fits : (r : Worked) → Fits (toldAnswer r)
-worked-fits A.Yes = omega arith
-worked-fits A.More = omega arith
-worked-fits (A.Failed f) = failure-fits f
-worked-fits (A.Refused r) = refusal-fits r
+pub worked-in-struct : (r : Worked) → InStruct (toldAnswer r)
+worked-in-struct A.Yes = omega arith
+worked-in-struct A.More = omega arith
+worked-in-struct (A.Failed f) = failure-in-struct f
+worked-in-struct (A.Refused r) = refusal-in-struct r
 
-pub attrset-fits : (first count : ℕ) (isOpen : Bool) (d : Dynamic) → Fits (done (toldAttrset first count isOpen d))
-attrset-fits first count isOpen D.Absent = omega arith
-attrset-fits first count isOpen (D.Present n) = omega arith
+pub attrset-in-struct : (first count : ℕ) (isOpen : Bool) (d : Dynamic) → InStruct (done (toldAttrset first count isOpen d))
+attrset-in-struct first count isOpen D.Absent = omega arith
+attrset-in-struct first count isOpen (D.Present n) = omega arith
 
-pub entry-fits : (e : Entry) → Fits (done (toldEntry e))
-entry-fits (E.Variable level) = omega arith
-entry-fits (E.Primitive which) = omega arith
-entry-fits (E.List element) = omega arith
-entry-fits (E.Lambda param body) = omega arith
-entry-fits (E.AttrSet a) = attrset-fits (a .first) (a .count) (a .is_open) (a .dynamic)
-entry-fits (E.Named inner label) = omega arith
-entry-fits (E.Neg inner) = omega arith
-entry-fits (E.Inter left right) = omega arith
-entry-fits (E.Union left right) = omega arith
+pub entry-in-struct : (e : Entry) → InStruct (done (toldEntry e))
+entry-in-struct (E.Variable level) = omega arith
+entry-in-struct (E.Primitive which) = omega arith
+entry-in-struct (E.List element) = omega arith
+entry-in-struct (E.Lambda param body) = omega arith
+entry-in-struct (E.AttrSet a) = attrset-in-struct (a .first) (a .count) (a .is_open) (a .dynamic)
+entry-in-struct (E.Named inner label) = omega arith
+entry-in-struct (E.Neg inner) = omega arith
+entry-in-struct (E.Inter left right) = omega arith
+entry-in-struct (E.Union left right) = omega arith
 
-pub entry-read-fits : (r : EntryRead) → Fits (toldEntryRead r)
-entry-read-fits (ER.Entry e) = entry-fits e
-entry-read-fits (ER.Refused r) = refusal-fits r
+pub entry-read-in-struct : (r : EntryRead) → InStruct (toldEntryRead r)
+entry-read-in-struct (ER.Entry e) = entry-in-struct e
+entry-read-in-struct (ER.Refused r) = refusal-in-struct r
 
-pub record-fits : (r : Record) → Fits (toldRecord r)
-record-fits (RR.Entry kind x y z flags spread negation) = omega arith
-record-fits (RR.Field name entry optional) = omega arith
-record-fits (RR.Bound variable side bound) = omega arith
-record-fits (RR.Visited sub sup) = omega arith
-record-fits (RR.Pending sub sup) = omega arith
-record-fits (RR.Equal left right) = omega arith
-record-fits (RR.Refused r) = refusal-fits r
+pub record-in-struct : (r : Record) → InStruct (toldRecord r)
+record-in-struct (RR.Entry kind x y z flags spread negation) = omega arith
+record-in-struct (RR.Field name entry optional) = omega arith
+record-in-struct (RR.Bound variable side bound) = omega arith
+record-in-struct (RR.Visited sub sup) = omega arith
+record-in-struct (RR.Pending sub sup) = omega arith
+record-in-struct (RR.Equal left right) = omega arith
+record-in-struct (RR.Refused r) = refusal-in-struct r
 
-pub disjointness-fits : (r : Disjointness) → Fits (toldDisjointness r)
-disjointness-fits J.Disjoint = omega arith
-disjointness-fits J.NotDisjoint = omega arith
-disjointness-fits (J.Refused r) = refusal-fits r
+pub disjointness-in-struct : (r : Disjointness) → InStruct (toldDisjointness r)
+disjointness-in-struct J.Disjoint = omega arith
+disjointness-in-struct J.NotDisjoint = omega arith
+disjointness-in-struct (J.Refused r) = refusal-in-struct r
 
-pub counted-fits : (r : Counted) → Fits (toldCounted r)
-counted-fits (C.Count n) = omega arith
-counted-fits (C.Refused r) = refusal-fits r
+pub counted-in-struct : (r : Counted) → InStruct (toldCounted r)
+counted-in-struct (C.Count n) = omega arith
+counted-in-struct (C.Refused r) = refusal-in-struct r
 
-pub compared-fits : (r : Compared) → Fits (toldCompared r)
-compared-fits (P.Order o) = omega arith
-compared-fits (P.Refused r) = refusal-fits r
+pub compared-in-struct : (r : Compared) → InStruct (toldCompared r)
+compared-in-struct (P.Order o) = omega arith
+compared-in-struct (P.Refused r) = refusal-in-struct r
 
-pub found-fits : (r : Found) → Fits (toldFound r)
-found-fits (N.At n) = omega arith
-found-fits N.Absent = omega arith
-found-fits (N.Refused r) = refusal-fits r
+pub found-in-struct : (r : Found) → InStruct (toldFound r)
+found-in-struct (N.At n) = omega arith
+found-in-struct N.Absent = omega arith
+found-in-struct (N.Refused r) = refusal-in-struct r
 
-pub placed-fits : (r : Placed) → Fits (toldPlaced r)
-placed-fits (L.At start bytes) = omega arith
-placed-fits (L.Refused r) = refusal-fits r
+pub placed-in-struct : (r : Placed) → InStruct (toldPlaced r)
+placed-in-struct (L.At start bytes) = omega arith
+placed-in-struct (L.Refused r) = refusal-in-struct r
 
-pub resolved-fits : (r : Resolved) → Fits (toldResolved r)
-resolved-fits (O.Primitive p) = omega arith
-resolved-fits O.None = omega arith
-resolved-fits (O.Refused r) = refusal-fits r
+pub resolved-in-struct : (r : Resolved) → InStruct (toldResolved r)
+resolved-in-struct (O.Primitive p) = omega arith
+resolved-in-struct O.None = omega arith
+resolved-in-struct (O.Refused r) = refusal-in-struct r

@@ -9,7 +9,7 @@ use Rattle.model.specs.declared.Refusal.{Refusal}
 use Rattle.model.specs.declared.Carried.{Carried}
 use Rattle.model.specs.declared.Dynamic.{Dynamic}
 use Rattle.model.specs.declared.Dynamic.the-variants.{Absent, Present}
-use Rattle.model.specs.Calls.{Reply}
+use Rattle.model.specs.Calls.{Response}
 use Rattle.capi.specs.Answers.{answer, answerOf}
 use Rattle.capi.specs.declared.Answer.{Answer}
 
@@ -30,5 +30,5 @@ within a first count b n o d e p q =
     e ∙ ap (λ (x : ℕ). answer 0 0 0 (4 ∷ first ∷ count ∷ x ∷ 1 ∷ n ∷ [])) p ∙ sym (ap (λ (x : Dynamic). answerOf 0 (done (toldAttrset first count o x))) q)
 
 -- a call on two arguments that are each known
-pub both : (f : Bool → Dynamic → Reply) (o p : Bool) (d e : Dynamic) → o ≡ p → d ≡ e → f o d ≡ f p e
+pub both : (f : Bool → Dynamic → Response) (o p : Bool) (d e : Dynamic) → o ≡ p → d ≡ e → f o d ≡ f p e
 both f o p d e x y = ap (λ (b : Bool). f b d) x ∙ ap (λ (t : Dynamic). f p t) y

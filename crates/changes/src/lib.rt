@@ -10,15 +10,15 @@ ghost use lib.Dec.{T};
 ghost use Rattle.model.specs.Format.{neg};
 ghost use Rattle.model.specs.Image.{table};
 ghost use Rattle.model.specs.Formed.{wellFormed};
-ghost use Rattle.model.specs.Calls.{replyOf, variableTurn, primitiveTurn, oneTurn, twoTurn, negTurn, attrsetTurn, dynamicKnown, markTurn, putBoundTurn, enterTurn, exitTurn, setLevelTurn};
+ghost use Rattle.model.specs.Calls.{responseOf, variableTurn, primitiveTurn, oneTurn, twoTurn, negTurn, attrsetTurn, dynamicKnown, markTurn, putBoundTurn, enterTurn, exitTurn, setLevelTurn};
 ghost use Rattle.model.specs.Told.{toldMade, toldReply};
 ghost use Rattle.image.specs.Shown.{entriesOf};
 
 // Makes a variable at the current level.
 pub fn variable_in(image: &mut [u32]) -> Made
     requires { ⌜ T (wellFormed (now image)) ⌝ }
-    ensures { λ r. ⌜ toldMade r ≡ replyOf (now (image .entry)) (variableTurn (table (now (image .entry)))) .says ⌝ }
-    ensures { λ _. ⌜ now (image .exit) ≡ replyOf (now (image .entry)) (variableTurn (table (now (image .entry)))) .words ⌝ }
+    ensures { λ r. ⌜ toldMade r ≡ responseOf (now (image .entry)) (variableTurn (table (now (image .entry)))) .says ⌝ }
+    ensures { λ _. ⌜ now (image .exit) ≡ responseOf (now (image .entry)) (variableTurn (table (now (image .entry)))) .words ⌝ }
 {
     if image::is_asked(image) {
         return Made::Refused(Refusal::Busy);
@@ -30,8 +30,8 @@ pub fn variable_in(image: &mut [u32]) -> Made
 // Makes a primitive, 0 to 7.
 pub fn primitive_in(image: &mut [u32], which: u32) -> Made
     requires { ⌜ T (wellFormed (now image)) ⌝ }
-    ensures { λ r. ⌜ toldMade r ≡ replyOf (now (image .entry)) (primitiveTurn which (table (now (image .entry)))) .says ⌝ }
-    ensures { λ _. ⌜ now (image .exit) ≡ replyOf (now (image .entry)) (primitiveTurn which (table (now (image .entry)))) .words ⌝ }
+    ensures { λ r. ⌜ toldMade r ≡ responseOf (now (image .entry)) (primitiveTurn which (table (now (image .entry)))) .says ⌝ }
+    ensures { λ _. ⌜ now (image .exit) ≡ responseOf (now (image .entry)) (primitiveTurn which (table (now (image .entry)))) .words ⌝ }
 {
     if image::is_asked(image) {
         return Made::Refused(Refusal::Busy);
@@ -46,8 +46,8 @@ pub fn primitive_in(image: &mut [u32], which: u32) -> Made
 pub fn one_in(image: &mut [u32], kind: u32, x: u32, label: u32) -> Made
     requires { ⌜ T (wellFormed (now image)) ⌝ }
     requires { ⌜ kind ≤ neg ⌝ }
-    ensures { λ r. ⌜ toldMade r ≡ replyOf (now (image .entry)) (oneTurn kind x label (table (now (image .entry)))) .says ⌝ }
-    ensures { λ _. ⌜ now (image .exit) ≡ replyOf (now (image .entry)) (oneTurn kind x label (table (now (image .entry)))) .words ⌝ }
+    ensures { λ r. ⌜ toldMade r ≡ responseOf (now (image .entry)) (oneTurn kind x label (table (now (image .entry)))) .says ⌝ }
+    ensures { λ _. ⌜ now (image .exit) ≡ responseOf (now (image .entry)) (oneTurn kind x label (table (now (image .entry)))) .words ⌝ }
 {
     if image::is_asked(image) {
         return Made::Refused(Refusal::Busy);
@@ -61,8 +61,8 @@ pub fn one_in(image: &mut [u32], kind: u32, x: u32, label: u32) -> Made
 // Makes an entry of two components: a lambda, an inter or a union.
 pub fn two_in(image: &mut [u32], kind: u32, x: u32, y: u32) -> Made
     requires { ⌜ T (wellFormed (now image)) ⌝ }
-    ensures { λ r. ⌜ toldMade r ≡ replyOf (now (image .entry)) (twoTurn kind x y (table (now (image .entry)))) .says ⌝ }
-    ensures { λ _. ⌜ now (image .exit) ≡ replyOf (now (image .entry)) (twoTurn kind x y (table (now (image .entry)))) .words ⌝ }
+    ensures { λ r. ⌜ toldMade r ≡ responseOf (now (image .entry)) (twoTurn kind x y (table (now (image .entry)))) .says ⌝ }
+    ensures { λ _. ⌜ now (image .exit) ≡ responseOf (now (image .entry)) (twoTurn kind x y (table (now (image .entry)))) .words ⌝ }
 {
     if image::is_asked(image) {
         return Made::Refused(Refusal::Busy);
@@ -79,8 +79,8 @@ pub fn two_in(image: &mut [u32], kind: u32, x: u32, y: u32) -> Made
 // Makes the negation of an entry, or answers the one that stands there.
 pub fn neg_in(image: &mut [u32], n: u32) -> Made
     requires { ⌜ T (wellFormed (now image)) ⌝ }
-    ensures { λ r. ⌜ toldMade r ≡ replyOf (now (image .entry)) (negTurn n (table (now (image .entry)))) .says ⌝ }
-    ensures { λ _. ⌜ now (image .exit) ≡ replyOf (now (image .entry)) (negTurn n (table (now (image .entry)))) .words ⌝ }
+    ensures { λ r. ⌜ toldMade r ≡ responseOf (now (image .entry)) (negTurn n (table (now (image .entry)))) .says ⌝ }
+    ensures { λ _. ⌜ now (image .exit) ≡ responseOf (now (image .entry)) (negTurn n (table (now (image .entry)))) .words ⌝ }
 {
     if image::is_asked(image) {
         return Made::Refused(Refusal::Busy);
@@ -105,8 +105,8 @@ fn dynamic_known(image: &[u32], dynamic: Dynamic) -> bool
 // Makes an attrset with the fields of a list, triples of a name, an entry and optional.
 pub fn attrset_in(image: &mut [u32], fields: &[u32], is_open: bool, dynamic: Dynamic) -> Made
     requires { ⌜ T (wellFormed (now image)) ⌝ }
-    ensures { λ r. ⌜ toldMade r ≡ replyOf (now (image .entry)) (attrsetTurn (now (fields .entry)) is_open dynamic (table (now (image .entry)))) .says ⌝ }
-    ensures { λ _. ⌜ now (image .exit) ≡ replyOf (now (image .entry)) (attrsetTurn (now (fields .entry)) is_open dynamic (table (now (image .entry)))) .words ⌝ }
+    ensures { λ r. ⌜ toldMade r ≡ responseOf (now (image .entry)) (attrsetTurn (now (fields .entry)) is_open dynamic (table (now (image .entry)))) .says ⌝ }
+    ensures { λ _. ⌜ now (image .exit) ≡ responseOf (now (image .entry)) (attrsetTurn (now (fields .entry)) is_open dynamic (table (now (image .entry)))) .words ⌝ }
 {
     if image::is_asked(image) {
         return Made::Refused(Refusal::Busy);
@@ -126,8 +126,8 @@ pub fn attrset_in(image: &mut [u32], fields: &[u32], is_open: bool, dynamic: Dyn
 // Sets the default mark of an entry.
 pub fn mark_in(image: &mut [u32], n: u32) -> Reply
     requires { ⌜ T (wellFormed (now image)) ⌝ }
-    ensures { λ r. ⌜ toldReply r ≡ replyOf (now (image .entry)) (markTurn n (table (now (image .entry)))) .says ⌝ }
-    ensures { λ _. ⌜ now (image .exit) ≡ replyOf (now (image .entry)) (markTurn n (table (now (image .entry)))) .words ⌝ }
+    ensures { λ r. ⌜ toldReply r ≡ responseOf (now (image .entry)) (markTurn n (table (now (image .entry)))) .says ⌝ }
+    ensures { λ _. ⌜ now (image .exit) ≡ responseOf (now (image .entry)) (markTurn n (table (now (image .entry)))) .words ⌝ }
 {
     if image::is_asked(image) {
         return Reply::Refused(Refusal::Busy);
@@ -142,8 +142,8 @@ pub fn mark_in(image: &mut [u32], n: u32) -> Reply
 // Puts a bound of a variable, on side 0 lower or 1 upper.
 pub fn bound_in(image: &mut [u32], v: u32, side: u32, b: u32) -> Reply
     requires { ⌜ T (wellFormed (now image)) ⌝ }
-    ensures { λ r. ⌜ toldReply r ≡ replyOf (now (image .entry)) (putBoundTurn v side b (table (now (image .entry)))) .says ⌝ }
-    ensures { λ _. ⌜ now (image .exit) ≡ replyOf (now (image .entry)) (putBoundTurn v side b (table (now (image .entry)))) .words ⌝ }
+    ensures { λ r. ⌜ toldReply r ≡ responseOf (now (image .entry)) (putBoundTurn v side b (table (now (image .entry)))) .says ⌝ }
+    ensures { λ _. ⌜ now (image .exit) ≡ responseOf (now (image .entry)) (putBoundTurn v side b (table (now (image .entry)))) .words ⌝ }
 {
     if image::is_asked(image) {
         return Reply::Refused(Refusal::Busy);
@@ -166,8 +166,8 @@ pub fn bound_in(image: &mut [u32], v: u32, side: u32, b: u32) -> Reply
 // Enters a level.
 pub fn enter_in(image: &mut [u32]) -> Reply
     requires { ⌜ T (wellFormed (now image)) ⌝ }
-    ensures { λ r. ⌜ toldReply r ≡ replyOf (now (image .entry)) (enterTurn (table (now (image .entry)))) .says ⌝ }
-    ensures { λ _. ⌜ now (image .exit) ≡ replyOf (now (image .entry)) (enterTurn (table (now (image .entry)))) .words ⌝ }
+    ensures { λ r. ⌜ toldReply r ≡ responseOf (now (image .entry)) (enterTurn (table (now (image .entry)))) .says ⌝ }
+    ensures { λ _. ⌜ now (image .exit) ≡ responseOf (now (image .entry)) (enterTurn (table (now (image .entry)))) .words ⌝ }
 {
     if image::is_asked(image) {
         return Reply::Refused(Refusal::Busy);
@@ -178,8 +178,8 @@ pub fn enter_in(image: &mut [u32]) -> Reply
 // Leaves a level.
 pub fn exit_in(image: &mut [u32]) -> Reply
     requires { ⌜ T (wellFormed (now image)) ⌝ }
-    ensures { λ r. ⌜ toldReply r ≡ replyOf (now (image .entry)) (exitTurn (table (now (image .entry)))) .says ⌝ }
-    ensures { λ _. ⌜ now (image .exit) ≡ replyOf (now (image .entry)) (exitTurn (table (now (image .entry)))) .words ⌝ }
+    ensures { λ r. ⌜ toldReply r ≡ responseOf (now (image .entry)) (exitTurn (table (now (image .entry)))) .says ⌝ }
+    ensures { λ _. ⌜ now (image .exit) ≡ responseOf (now (image .entry)) (exitTurn (table (now (image .entry)))) .words ⌝ }
 {
     if image::is_asked(image) {
         return Reply::Refused(Refusal::Busy);
@@ -190,8 +190,8 @@ pub fn exit_in(image: &mut [u32]) -> Reply
 // Sets a variable's level.
 pub fn level_in(image: &mut [u32], v: u32, level: u32) -> Reply
     requires { ⌜ T (wellFormed (now image)) ⌝ }
-    ensures { λ r. ⌜ toldReply r ≡ replyOf (now (image .entry)) (setLevelTurn v level (table (now (image .entry)))) .says ⌝ }
-    ensures { λ _. ⌜ now (image .exit) ≡ replyOf (now (image .entry)) (setLevelTurn v level (table (now (image .entry)))) .words ⌝ }
+    ensures { λ r. ⌜ toldReply r ≡ responseOf (now (image .entry)) (setLevelTurn v level (table (now (image .entry)))) .says ⌝ }
+    ensures { λ _. ⌜ now (image .exit) ≡ responseOf (now (image .entry)) (setLevelTurn v level (table (now (image .entry)))) .words ⌝ }
 {
     if image::is_asked(image) {
         return Reply::Refused(Refusal::Busy);

@@ -6,7 +6,7 @@ use mathlib.Core.List.{List}
 use mathlib.Core.Bool.{true, false}
 use Rattle.model.specs.Table.{Capacities}
 use Rattle.model.specs.Told.{Told, more, toldRefusal}
-use Rattle.model.specs.Calls.{Reply, Call, works, perform}
+use Rattle.model.specs.Calls.{Response, Call, works, perform}
 use Rattle.model.specs.declared.Refusal.{Refusal}
 use Rattle.laws.specs.Refusals.{isWork, forRoom, KeepsEarlier}
 use Rattle.laws.proofs.Refused.{no-steps, refused-as-found, start-refused-as-found, work-refused-as-found, work-refused-keeps, work-refused-stays}
@@ -36,10 +36,10 @@ module _ {b n : ℕ} {v w : List ℕ} (r : Refusal) (m : Meets (works b) v (told
   pub work-just-those : forRoom r ≡ true → {a : Told} {l : ℕ} {x : List ℕ} → Meets (works n) v a l x → (a ≡ more) × (l ≡ n) × (x ≡ w)
   work-just-those k p =
       let e = work-keeps-earlier k .earlier in
-      (p .tells ∙ ap (λ (z : Reply). z .says) e, p .counts ∙ ap (λ (z : Reply). z .steps) e, p .leaves ∙ ap (λ (z : Reply). z .words) e)
+      (p .tells ∙ ap (λ (z : Response). z .says) e, p .counts ∙ ap (λ (z : Response). z .steps) e, p .leaves ∙ ap (λ (z : Response). z .words) e)
 
   -- and worked again, with any budget but 0, it is refused again: by the same refusal, with no step and no word changed
   pub work-refused-again : forRoom r ≡ true → {a : Told} {k l : ℕ} {x : List ℕ} → Meets (works (suc k)) w a l x → (a ≡ toldRefusal r) × (l ≡ 0) × (x ≡ w)
   work-refused-again f {k = k} p =
       let e = rw (sym (m .leaves)) at (work-refused-stays b v r f (sym (m .tells)) k) in
-      (p .tells ∙ ap (λ (z : Reply). z .says) e, p .counts ∙ ap (λ (z : Reply). z .steps) e, p .leaves ∙ ap (λ (z : Reply). z .words) e)
+      (p .tells ∙ ap (λ (z : Response). z .says) e, p .counts ∙ ap (λ (z : Response). z .steps) e, p .leaves ∙ ap (λ (z : Response). z .words) e)

@@ -1,6 +1,6 @@
 -- Demand 3: "A question may be worked in instalments, and answer, steps and every word are those of the nested rules run without a pause;
 -- while it answers MORE, those of the nested rules stopped after that many steps." Over any run of calls of work. `Whole`, the rules
--- without a pause, and `Part`, the rules stopped after just so many steps, are in crates/instalments/specs. Assumes nothing.
+-- without a pause, and `Partly`, the rules stopped after just so many steps, are in crates/instalments/specs. Assumes nothing.
 use Prim.Native.Nat.{ℕ, _+_, _<_}
 use native.Mathlib.Omega.{arith}
 use mathlib.Core.Path.{_≡_, refl, sym, ap, _∙_, subst}
@@ -9,13 +9,13 @@ use mathlib.Core.Logic.{_⊎_, inl, inr}
 use lib.Dec.{T}
 use Rattle.instalments.specs.Whole.{End, well, broken, Whole}
 use Rattle.instalments.proofs.Whole.{whole-same}
-use Rattle.instalments.proofs.Part.{part-short}
+use Rattle.instalments.proofs.Partly.{partly-short}
 use Rattle.model.specs.Table.{Pair, Store, Table, tableOf, isAsked}
 use Rattle.model.specs.Image.{words, table}
 use Rattle.model.specs.Formed.{wellFormed}
 use Rattle.model.specs.Rules.{rule}
 use Rattle.model.specs.Told.{Told, done, yes, more, toldFailure}
-use Rattle.model.specs.Calls.{Reply, asks, works, perform, recorded, pairsOf}
+use Rattle.model.specs.Calls.{Response, asks, works, perform, recorded, pairsOf}
 use Rattle.model.specs.declared.Question.{Question}
 use Rattle.model.specs.declared.Failure.{Failure}
 use Rattle.laws.specs.Demands.{afterSteps, isMore, workAll, Demand-3}
@@ -26,17 +26,17 @@ use Rattle.laws.proofs.Runs.{work-all-formed, read-as, done-formed}
 use Rattle.demands.specs.Meets.{Meets, Run, none, ends, goes-on, Instalments}
 
 -- a run is what the model gives for these budgets
-abbrev asReply : Told → ℕ → List ℕ → Reply
-asReply a n w = record { says = a; steps = n; words = w }
+abbrev asResponse : Told → ℕ → List ℕ → Response
+asResponse a n w = record { says = a; steps = n; words = w }
 
-same-reply : {v w : List ℕ} {a : Told} {n : ℕ} (b : ℕ) → Meets (works b) v a n w → perform (works b) v ≡ asReply a n w
+same-reply : {v w : List ℕ} {a : Told} {n : ℕ} (b : ℕ) → Meets (works b) v a n w → perform (works b) v ≡ asResponse a n w
 same-reply b m = sym (λ i. record { says = m .tells i; steps = m .counts i; words = m .leaves i })
 
-counted : (k : ℕ) (a : Told) (n : ℕ) (w : List ℕ) (r : Reply) → asReply a n w ≡ r → asReply a (k + n) w ≡ afterSteps k r
+counted : (k : ℕ) (a : Told) (n : ℕ) (w : List ℕ) (r : Response) → asResponse a n w ≡ r → asResponse a (k + n) w ≡ afterSteps k r
 unfolding afterSteps
 counted k a n w r e = ap (afterSteps k) e
 
-run-is : {bs v w : List ℕ} {a : Told} {n : ℕ} → Run bs v a n w → asReply a n w ≡ workAll bs v
+run-is : {bs v w : List ℕ} {a : Told} {n : ℕ} → Run bs v a n w → asResponse a n w ≡ workAll bs v
 unfolding workAll isMore
 run-is none = refl
 run-is (ends b m e) = rw (same-reply b m, e)
@@ -45,10 +45,10 @@ run-is (goes-on {bs = bs} {u = u} {w = w} {a = a} {n = n} {m = k} b m rest) = rw
 -- a run leaves a well formed image well formed
 pub run-formed : {bs v w : List ℕ} {a : Told} {n : ℕ} → T (wellFormed v) → Run bs v a n w → T (wellFormed w)
 run-formed {bs} {v} h run =
-    let e = ap (λ (r : Reply). r .words) (run-is run) in
+    let e = ap (λ (r : Response). r .words) (run-is run) in
     subst (λ (ws : List ℕ). T (wellFormed ws)) (sym e) (work-all-formed bs v h)
 
-module _ (bs : List ℕ) (s : Store) (ps : List Pair) (a : Told) (n : ℕ) (w : List ℕ) (h : T (wellFormed w)) (d : Demand-3 bs s ps (asReply a n w)) where
+module _ (bs : List ℕ) (s : Store) (ps : List Pair) (a : Told) (n : ℕ) (w : List ℕ) (h : T (wellFormed w)) (d : Demand-3 bs s ps (asResponse a n w)) where
   store-of : (u : Store) (q : List Pair) → w ≡ words (tableOf u q) → table w .store ≡ u
   store-of u q e = ap (λ (t : Table). t .store) (read-as w (tableOf u q) h e)
 
@@ -108,4 +108,4 @@ any-budgets h k i j r t = both i j (worked-in-instalments h k r) (worked-in-inst
 
 -- and MORE is answered only while the steps are fewer than the whole takes
 pub more-only-before : {bs w : List ℕ} {s : Store} {ps : List Pair} {n k : ℕ} {e : End Store Failure} → Instalments bs s ps more n w → Whole rule s ps k e → n < k
-more-only-before i whole = part-short rule (i .to-more refl .2) whole
+more-only-before i whole = partly-short rule (i .to-more refl .2) whole

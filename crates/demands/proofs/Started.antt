@@ -19,7 +19,7 @@ use Rattle.model.specs.Formed.{wellFormed}
 use Rattle.model.specs.Rules.{breakOf, rule}
 use Rattle.model.specs.Room.{room}
 use Rattle.model.specs.Told.{Told, done, yes, more, failed, refused, toldRefusal, toldFailure}
-use Rattle.model.specs.Calls.{Turn, refuse, tell, leave, replyOf, provided, emptyTable, capacitiesRight, start, brokenBy, workedTurn, workTurn, Call, asks, works, turnOf, perform}
+use Rattle.model.specs.Calls.{Turn, refuse, tell, leave, responseOf, provided, emptyTable, capacitiesRight, start, brokenBy, workedTurn, workTurn, Call, asks, works, turnOf, perform}
 use Rattle.model.specs.declared.Question.{Question}
 use Rattle.model.specs.declared.Failure.{Failure}
 use Rattle.model.specs.declared.Failure.the-variants.{Mismatch, MissingField}
@@ -53,10 +53,10 @@ done-tells-none (failed n l) h = absurd h
 done-tells-none (refused n l) h = refl
 
 -- what a turn leaves has a past, with the failure that it tells
-abbrev Goes-on : Option Failure → Turn → Type 0
-Goes-on o (refuse r) = Unit {0}
-Goes-on o (tell a) = failureIn a ≡ none
-Goes-on o (leave a k u) = StorePast (firstOf o (failureIn a)) (u .store) (u .pending)
+abbrev LeavesPast : Option Failure → Turn → Type 0
+LeavesPast o (refuse r) = Unit {0}
+LeavesPast o (tell a) = failureIn a ≡ none
+LeavesPast o (leave a k u) = StorePast (firstOf o (failureIn a)) (u .store) (u .pending)
 
 module _ {o : Option Failure} (t : Table) (h : StorePast o (t .store) (t .pending)) where
   by-way : (c : Call) (ws : List ℕ) (a : Told) (k : ℕ) (u : Table) → turnOf c ws t ≡ leave a k u → Way t u → StorePast o (u .store) (u .pending)
@@ -72,12 +72,12 @@ module _ {o : Option Failure} (t : Table) (h : StorePast o (t .store) (t .pendin
   no-failure : (x : Option Failure) (s : Store) (ps : List Pair) → x ≡ none → StorePast o s ps → StorePast (firstOf o x) s ps
   no-failure x s ps e k = subst (λ (y : Option Failure). StorePast y s ps) (sym (ap (firstOf o) e ∙ first-none o)) k
 
-  plain-on : (c : Call) (ws : List ℕ) (turn : Turn) → turnOf c ws t ≡ turn → Plainly t turn → Goes-on o turn
+  plain-on : (c : Call) (ws : List ℕ) (turn : Turn) → turnOf c ws t ≡ turn → Plainly t turn → LeavesPast o turn
   plain-on c ws (refuse r) e p = tt
   plain-on c ws (tell a) e p = done-tells-none a p
   plain-on c ws (leave a k u) e p = no-failure (failureIn a) (u .store) (u .pending) (done-tells-none a (p .0)) (by-way c ws a k u e (p .2 .way))
 
-  worked-on : (budget : ℕ) (x : Roomed Store Pair Failure Refusal) → Kept (StorePast o) (λ f u. StorePast (firstOf o (some f)) u []) x → Goes-on o (workedTurn budget x)
+  worked-on : (budget : ℕ) (x : Roomed Store Pair Failure Refusal) → Kept (StorePast o) (λ f u. StorePast (firstOf o (some f)) u []) x → LeavesPast o (workedTurn budget x)
   unfolding workedTurn failureIn
   worked-on budget (answered (yes-in k u)) j = no-failure none u [] refl j
   worked-on budget (answered (fail-in k f u)) j = subst (λ (x : Option Failure). StorePast (firstOf o x) u []) (sym (told-again f)) j
@@ -85,22 +85,22 @@ module _ {o : Option Failure} (t : Table) (h : StorePast o (t .store) (t .pendin
   worked-on budget (refused-in k w u q) j = no-failure none u q refl j
 
   -- every call
-  turn-on : (c : Call) (ws : List ℕ) → Goes-on o (turnOf c ws t)
+  turn-on : (c : Call) (ws : List ℕ) → LeavesPast o (turnOf c ws t)
   unfolding turnOf workTurn
-  turn-on c ws = by-call (λ (d : Call). Goes-on o (turnOf d ws t)) (λ d n. plain-on d ws (turnOf d ws t) refl (plainly d n ws t)) work c
+  turn-on c ws = by-call (λ (d : Call). LeavesPast o (turnOf d ws t)) (λ d n. plain-on d ws (turnOf d ws t) refl (plainly d n ws t)) work c
     where
-      work : (b : ℕ) → Goes-on o (turnOf (works b) ws t)
+      work : (b : ℕ) → LeavesPast o (turnOf (works b) ws t)
       work b =
-          by-provided (Goes-on o) (isAsked t) (λ k. tt)
+          by-provided (LeavesPast o) (isAsked t) (λ k. tt)
           (λ k. worked-on b (machine.work rule room b (t .store) (t .pending)) (work-history rule modelCalls room b (t .store) (t .pending) h))
 
 -- in the words
 abbrev pub ImagePast : Option Failure → List ℕ → Type 0
 ImagePast o ws = StorePast o (table ws .store) (table ws .pending)
 
-reply-past : (o : Option Failure) (ws : List ℕ) (turn : Turn) → ImagePast o ws → TurnSound (table ws) turn → Goes-on o turn
-    → ImagePast (firstOf o (failureIn (replyOf ws turn .says))) (replyOf ws turn .words)
-unfolding replyOf failureIn
+reply-past : (o : Option Failure) (ws : List ℕ) (turn : Turn) → ImagePast o ws → TurnSound (table ws) turn → LeavesPast o turn
+    → ImagePast (firstOf o (failureIn (responseOf ws turn .says))) (responseOf ws turn .words)
+unfolding responseOf failureIn
 reply-past o ws (refuse r) h s k = subst (λ (x : Option Failure). ImagePast x ws) (sym (first-none o)) h
 reply-past o ws (tell a) h s k = subst (λ (x : Option Failure). ImagePast x ws) (sym (ap (firstOf o) k ∙ first-none o)) h
 reply-past o ws (leave a n u) h s k = rw (read-back u (s .0)) k
@@ -111,7 +111,7 @@ call-past o c fits ws f h =
     rw (perform-formed c ws f) (reply-past o ws (turnOf c ws (table ws)) h (turn-sound c fits ws (table ws) (sound-table ws f)) (turn-on (table ws) h c ws))
 
 start-past : (names functor : ℕ) (c : Capacities) (ws : List ℕ) → T (capacitiesRight names functor c ws) → ImagePast none (start names functor c ws .words)
-unfolding start provided replyOf emptyTable first-failure
+unfolding start provided responseOf emptyTable first-failure
 start-past names functor c ws h =
     let e : start names functor c ws .words ≡ words (emptyTable names functor c) = rw (true-of (capacitiesRight names functor c ws) h) in
     let f : T (wellFormed (words (emptyTable names functor c))) = rw e at (start-formed names functor c ws h) in
@@ -135,7 +135,7 @@ ours-after o [] fits = o
 ours-after o (c ∷ cs) fits = ours-after (called c (fits .0) o) cs (fits .1)
 
 -- so every call is its turn, and none refuses the image
-pub ours-admitted : {ws : List ℕ} → Ours ws → (c : Call) → perform c ws ≡ replyOf ws (turnOf c ws (table ws))
+pub ours-admitted : {ws : List ℕ} → Ours ws → (c : Call) → perform c ws ≡ responseOf ws (turnOf c ws (table ws))
 ours-admitted {ws} o c = perform-formed c ws (ours-formed o)
 
 -- its break words are those of the first failure

@@ -5,7 +5,7 @@ use mathlib.Core.Path.{_≡_}
 use mathlib.Core.List.{List, [], _∷_}
 use mathlib.Core.Bool.{false}
 use Rattle.instalments.specs.Machine.{total}
-use Rattle.instalments.specs.Whole.{well, broken, Whole, Part}
+use Rattle.instalments.specs.Whole.{well, broken, Whole, Partly}
 use Rattle.model.specs.Format.{wordEnd}
 use Rattle.model.specs.Table.{Pair, Capacities, Store, tableOf}
 use Rattle.model.specs.Image.{words, table}
@@ -46,6 +46,6 @@ pub record Instalments (budgets : List ℕ) (s : Store) (ps : List Pair) (a : To
   pub to-yes : a ≡ yes → (u : Store) × Whole rule s ps n (well u) × (w ≡ words (tableOf u []))
   pub to-failure : (f : Failure) → a ≡ toldFailure f → (u : Store) × Whole rule s ps n (broken f u) × (w ≡ words (tableOf u []))
   -- MORE: every budget is used, and the store is that of the nested rules stopped after just that many steps
-  pub to-more : a ≡ more → (u : Store) × (n ≡ total budgets) × Part rule s ps n u × (table w .store ≡ u)
+  pub to-more : a ≡ more → (u : Store) × (n ≡ total budgets) × Partly rule s ps n u × (table w .store ≡ u)
   -- refused by 5 or 6: the same after the steps that it tells
-  pub to-refusal : (r : Refusal) → a ≡ toldRefusal r → (u : Store) × Part rule s ps n u × (table w .store ≡ u)
+  pub to-refusal : (r : Refusal) → a ≡ toldRefusal r → (u : Store) × Partly rule s ps n u × (table w .store ≡ u)

@@ -5,10 +5,10 @@ use native.Mathlib.Omega.{arith}
 use mathlib.Core.Path.{_≡_, refl, sym, ap, _∙_}
 use mathlib.Core.List.{List, [], _∷_, _++_, append-assoc}
 use lib.ListN.{length, getD, take, drop, length-append, length-drop, take-append-drop}
-use lib.Seq.{take-at, drop-at, drop-drop, drop-cons, drop-length, getD-drop, length-take-le}
+use lib.Seq.{take-at, drop-at, drop-drop, drop-cons, drop-length, getD-drop}
 use lib.Dec.{T}
 use Rattle.model.specs.Format.{Region, noRegion, headerOf}
-use Rattle.model.specs.Parts.{word, offset, capacity, count, Part, noPart, past, triples, bodies, image, partAt, partsFrom, regionRight, regionsRight, restZero, restsZero, InRegion, InRegions, done, _then_}
+use Rattle.model.specs.Parts.{word, offset, capacity, count, Part, noPart, past, triples, bodies, image, partsFrom, regionRight, regionsRight, restZero, restsZero, InRegion, InRegions, done, _then_}
 use Rattle.laws.proofs.Tests.{both, first, second, nth, none, _and_, all-passed, le-of, eq-of, of-le, of-eq}
 
 pub parts-length : (rs : List Region) (k : ℕ) (ws : List ℕ) → length (partsFrom rs k ws) ≡ length rs
@@ -178,27 +178,11 @@ module _ (front : List ℕ) (n : length front ≡ 9) {rs : List Region} {ps : Li
   pub image-right : T (regionsRight rs 1 (headerOf rs) (image front ps))
   image-right = lie-right f image-lies
 
--- parts read off words that pass the tests have their shapes
-pub parts-fit : (rs : List Region) (k at : ℕ) (ws : List ℕ) → T (regionsRight rs k at ws) → InRegions rs (partsFrom rs k ws)
-unfolding partsFrom
-parts-fit [] k at ws h = done
-parts-fit (r ∷ rs) k at ws h =
-    let q = here r rs k at ws h in
-    let e = ends ws rs (suc k) (at + r .width * capacity ws k) (on r rs k at ws h) in
-    let m : r .width * capacity ws k ≤ length (drop (offset ws k) ws) = rw (length-drop (offset ws k) ws) (omega arith) in
-    record { wide = refl; small = q .small; held = q .held; full = length-take-le (r .width * capacity ws k) (drop (offset ws k) ws) m }
-    then parts-fit rs (suc k) (at + r .width * capacity ws k) ws (on r rs k at ws h)
-
 -- one part of its region
 pub fit-at : {rs : List Region} {ps : List Part} → InRegions rs ps → (j : ℕ) → j < length rs → InRegion (getD rs j noRegion) (getD ps j noPart)
 fit-at done j h = absurd (omega arith)
 fit-at (x then xs) zero h = x
 fit-at (x then xs) (suc j) h = fit-at xs j (omega arith)
-
-pub fit-drop : {rs : List Region} {ps : List Part} (n : ℕ) → InRegions rs ps → InRegions (drop n rs) (drop n ps)
-fit-drop zero f = f
-fit-drop (suc n) done = done
-fit-drop (suc n) (x then xs) = fit-drop n xs
 
 -- region k + j by itself: the flat statement
 pub record Flat (ws : List ℕ) (k width at : ℕ) : Type 0 where
@@ -218,9 +202,3 @@ flat-at ws (r ∷ rs) k at h (suc j) lt =
     let e : suc k + j ≡ k + suc j = omega arith in
     let g : Flat ws (k + suc j) (getD rs j noRegion .width) (at + r .width * capacity ws k) = rw e at f in
     record { after = omega arith; inside = g .inside }
-
-pub region-at : (rs : List Region) (k : ℕ) (ws : List ℕ) (j : ℕ) → j < length rs → getD (partsFrom rs k ws) j noPart ≡ partAt (getD rs j noRegion) (k + j) ws
-unfolding partsFrom
-region-at [] k ws j lt = absurd (omega arith)
-region-at (r ∷ rs) k ws zero lt = let e : k ≡ k + 0 = omega arith in ap (λ (n : ℕ). partAt r n ws) e
-region-at (r ∷ rs) k ws (suc j) lt = let e : suc k + j ≡ k + suc j = omega arith in region-at rs (suc k) ws j (omega arith) ∙ ap (λ (n : ℕ). partAt (getD rs j noRegion) n ws) e

@@ -7,7 +7,7 @@ use mathlib.Core.Bool.{Bool, true, false, not}
 use lib.Dec.{T, eqb→eq}
 use Rattle.model.specs.Image.{table}
 use Rattle.model.specs.Formed.{wellFormed}
-use Rattle.model.specs.Calls.{Reply, Turn, refuse, replyOf, admission, admitted, onTable, provided, Call, turnOf, perform}
+use Rattle.model.specs.Calls.{Response, Turn, refuse, responseOf, admission, admitted, onTable, provided, Call, turnOf, perform}
 use Rattle.model.specs.Told.{Told, numberOf, toldRefusal}
 use Rattle.model.proofs.OneToOne.{refusal-one-to-one}
 use Rattle.model.specs.declared.Refusal.{Refusal}
@@ -31,49 +31,49 @@ unfolding provided
 passed-by ok r turn e = rw e
 
 -- an image is good exactly where it is well formed, and its refusals are of the image
-abbrev Fit : List ℕ → Admission → Type 0
-Fit ws Good = T (wellFormed ws)
-Fit ws (Unfit r) = T (not (wellFormed ws)) × T (ofImage r)
+abbrev Admits : List ℕ → Admission → Type 0
+Admits ws Good = T (wellFormed ws)
+Admits ws (Unfit r) = T (not (wellFormed ws)) × T (ofImage r)
 
-fit : (ws : List ℕ) → Fit ws (admission ws)
+admits : (ws : List ℕ) → Admits ws (admission ws)
 unfolding admission
-fit ws = by-test (Fit ws) (wellFormed ws) (λ h. h) (λ h. (h, tt))
+admits ws = by-test (Admits ws) (wellFormed ws) (λ h. h) (λ h. (h, tt))
 
 pub formed-good : (ws : List ℕ) → T (wellFormed ws) → admission ws ≡ Good
 unfolding admission
 formed-good ws h = rw (true-of (wellFormed ws) h)
 
 pub good-formed : (ws : List ℕ) → admission ws ≡ Good → T (wellFormed ws)
-good-formed ws e = subst (λ (a : Admission). Fit ws a) e (fit ws)
+good-formed ws e = subst (λ (a : Admission). Admits ws a) e (admits ws)
 
 -- every call of a well formed image is its turn; of another, the refusal
-pub perform-formed : (c : Call) (ws : List ℕ) → T (wellFormed ws) → perform c ws ≡ replyOf ws (turnOf c ws (table ws))
+pub perform-formed : (c : Call) (ws : List ℕ) → T (wellFormed ws) → perform c ws ≡ responseOf ws (turnOf c ws (table ws))
 unfolding perform onTable admitted
 perform-formed c ws h = rw (formed-good ws h)
 
-pub perform-unfit : (c : Call) (ws : List ℕ) (r : Refusal) → admission ws ≡ Unfit r → perform c ws ≡ replyOf ws (refuse r)
+pub perform-unfit : (c : Call) (ws : List ℕ) (r : Refusal) → admission ws ≡ Unfit r → perform c ws ≡ responseOf ws (refuse r)
 unfolding perform onTable admitted
 perform-unfit c ws r e = rw e
 
 pub same-turn : (c d : Call) (ws : List ℕ) → turnOf c ws (table ws) ≡ turnOf d ws (table ws) → perform c ws ≡ perform d ws
 unfolding perform onTable
-same-turn c d ws e = ap (λ (turn : Turn). replyOf ws (admitted (admission ws) turn)) e
+same-turn c d ws e = ap (λ (turn : Turn). responseOf ws (admitted (admission ws) turn)) e
 
-by-fit : (P : Turn → Type 0) (ws : List ℕ) (turn : Turn) → ((r : Refusal) → T (ofImage r) → P (refuse r)) → (T (wellFormed ws) → P turn)
-    → (a : Admission) → Fit ws a → P (admitted a turn)
+by-fitness : (P : Turn → Type 0) (ws : List ℕ) (turn : Turn) → ((r : Refusal) → T (ofImage r) → P (refuse r)) → (T (wellFormed ws) → P turn)
+    → (a : Admission) → Admits ws a → P (admitted a turn)
 unfolding admitted
-by-fit P ws turn f g Good h = g h
-by-fit P ws turn f g (Unfit r) h = f r (h .1)
+by-fitness P ws turn f g Good h = g h
+by-fitness P ws turn f g (Unfit r) h = f r (h .1)
 
-pub by-admission : (P : Reply → Type 0) (c : Call) (ws : List ℕ) → ((r : Refusal) → T (ofImage r) → P (replyOf ws (refuse r)))
-    → (T (wellFormed ws) → P (replyOf ws (turnOf c ws (table ws)))) → P (perform c ws)
+pub by-admission : (P : Response → Type 0) (c : Call) (ws : List ℕ) → ((r : Refusal) → T (ofImage r) → P (responseOf ws (refuse r)))
+    → (T (wellFormed ws) → P (responseOf ws (turnOf c ws (table ws)))) → P (perform c ws)
 unfolding perform onTable
-by-admission P c ws f g = by-fit (λ (turn : Turn). P (replyOf ws turn)) ws (turnOf c ws (table ws)) f g (admission ws) (fit ws)
+by-admission P c ws f g = by-fitness (λ (turn : Turn). P (responseOf ws turn)) ws (turnOf c ws (table ws)) f g (admission ws) (admits ws)
 
 -- what a call says but a refusal of the image, it says of a well formed one
 pub said-formed : (c : Call) (ws : List ℕ) (a : Told) → ((r : Refusal) → T (ofImage r) → toldRefusal r ≡ a → ⊥) → perform c ws .says ≡ a → T (wellFormed ws)
-unfolding replyOf
-said-formed c ws a n = by-admission (λ (r : Reply). r .says ≡ a → T (wellFormed ws)) c ws (λ r h e. absurd (n r h e)) (λ h e. h)
+unfolding responseOf
+said-formed c ws a n = by-admission (λ (r : Response). r .says ≡ a → T (wellFormed ws)) c ws (λ r h e. absurd (n r h e)) (λ h e. h)
 
 -- refusals that a test tells apart are told differently
 pub other-refusal : (f : Refusal → Bool) (r w : Refusal) → T (f r) → f w ≡ false → toldRefusal r ≡ toldRefusal w → ⊥

@@ -13,10 +13,10 @@ use Rattle.model.specs.Table.{Pair, _⊑_, Store, Table, tableOf, stateOf, isAs
 use Rattle.model.specs.Image.{words, table}
 use Rattle.model.specs.Formed.{wellFormed, isEntry}
 use Rattle.model.specs.Room.{firstLacking, deepEnough, fitting}
-use Rattle.model.specs.Calls.{Reply, Turn, refuse, leave, replyOf, provided, whenAsked, leaveBy, leaveIfRoom, isRecorded, recorded, pairsOf, opened, brokenBy, askTurn, abandonTurn, workTurn}
+use Rattle.model.specs.Calls.{Response, Turn, refuse, leave, responseOf, provided, whenAsked, leaveBy, leaveIfRoom, isRecorded, recorded, pairsOf, opened, brokenBy, askTurn, abandonTurn, workTurn}
 use Rattle.model.specs.Told.{done, toldRefusal}
 use Rattle.model.specs.declared.Question.{Question}
-use Rattle.model.specs.declared.Reply.{Reply as ReplyOut}
+use Rattle.model.specs.declared.Reply.{Reply}
 use Rattle.model.specs.declared.Reply.the-variants as Y
 use Rattle.model.specs.declared.Refusal.{Refusal}
 use Rattle.model.specs.declared.Refusal.the-variants.{BadNumber, Busy, Idle, Broken, NoRoom}
@@ -78,25 +78,25 @@ module _ (w : List ℕ) (q : Question) where
       no-second h = rw (i, u, le-ltb (q .right) (length (entriesOf w)) h, and-false)
 
       -- 5, or what it opens
-      pub fit : q .left < length (entriesOf w) → q .right < length (entriesOf w) → (x : ReplyOut) → Roomy w q x → Fitness w q x
+      pub fit : q .left < length (entriesOf w) → q .right < length (entriesOf w) → (x : Reply) → Roomy w q x → Fitness w q x
       unfolding askTurn provided isEntry leaveIfRoom leaveBy opened
       fit h k (Y.Refused r) e = rw (i, u, lt-ltb (q .left) (length (entriesOf w)) h, lt-ltb (q .right) (length (entriesOf w)) k, e)
       fit h k Y.Done e =
           (e .0, idle-empty w i, rw (i, u, lt-ltb (q .left) (length (entriesOf w)) h, lt-ltb (q .right) (length (entriesOf w)) k, e .1))
 
 -- a reply where a call is refused
-pub refused-so : (w : List ℕ) (turn : Turn) (r : Refusal) → turn ≡ refuse r → (toldRefusal r ≡ replyOf w turn .says) × (w ≡ replyOf w turn .words)
-unfolding replyOf
+pub refused-so : (w : List ℕ) (turn : Turn) (r : Refusal) → turn ≡ refuse r → (toldRefusal r ≡ responseOf w turn .says) × (w ≡ responseOf w turn .words)
+unfolding responseOf
 refused-so w turn r e =
-    let q : replyOf w (refuse r) ≡ replyOf w turn = ap (replyOf w) (sym e) in
-    (ap (λ (x : Reply). x .says) q, ap (λ (x : Reply). x .words) q)
+    let q : responseOf w (refuse r) ≡ responseOf w turn = ap (responseOf w) (sym e) in
+    (ap (λ (x : Response). x .says) q, ap (λ (x : Response). x .words) q)
 
 -- and where it leaves a table
-pub left-so : (w v : List ℕ) (turn : Turn) (t : Table) → turn ≡ leave (done []) 0 t → v ≡ words t → (done [] ≡ replyOf w turn .says) × (v ≡ replyOf w turn .words)
-unfolding replyOf
+pub left-so : (w v : List ℕ) (turn : Turn) (t : Table) → turn ≡ leave (done []) 0 t → v ≡ words t → (done [] ≡ responseOf w turn .says) × (v ≡ responseOf w turn .words)
+unfolding responseOf
 left-so w v turn t e g =
-    let q : replyOf w (leave (done []) 0 t) ≡ replyOf w turn = ap (replyOf w) (sym e) in
-    (ap (λ (x : Reply). x .says) q, g ∙ ap (λ (x : Reply). x .words) q)
+    let q : responseOf w (leave (done []) 0 t) ≡ responseOf w turn = ap (responseOf w) (sym e) in
+    (ap (λ (x : Response). x .says) q, g ∙ ap (λ (x : Response). x .words) q)
 
 -- "work or abandon while idle"
 pub idle-so : (w : List ℕ) (turn : Turn) → isAsked (table w) ≡ false → whenAsked (table w) turn ≡ refuse Idle
@@ -106,23 +106,23 @@ pub asked-so : (w : List ℕ) (turn : Turn) → isAsked (table w) ≡ true → w
 asked-so w turn = passed-by (isAsked (table w)) Idle turn
 
 pub abandoned : (w v : List ℕ) → isAsked (table w) ≡ true → v ≡ words (tableOf (storeOf w) [])
-    → (done [] ≡ replyOf w (abandonTurn (table w)) .says) × (v ≡ replyOf w (abandonTurn (table w)) .words)
-unfolding replyOf abandonTurn
+    → (done [] ≡ responseOf w (abandonTurn (table w)) .says) × (v ≡ responseOf w (abandonTurn (table w)) .words)
+unfolding responseOf abandonTurn
 abandoned w v e f =
-    let q : replyOf w (leave (done []) 0 (tableOf (storeOf w) [])) ≡ replyOf w (abandonTurn (table w)) = ap (replyOf w) (sym (asked-so w (leave (done []) 0 (tableOf (storeOf w) [])) e)) in
-    (ap (λ (x : Reply). x .says) q, f ∙ ap (λ (x : Reply). x .words) q)
+    let q : responseOf w (leave (done []) 0 (tableOf (storeOf w) [])) ≡ responseOf w (abandonTurn (table w)) = ap (responseOf w) (sym (asked-so w (leave (done []) 0 (tableOf (storeOf w) [])) e)) in
+    (ap (λ (x : Response). x .says) q, f ∙ ap (λ (x : Response). x .words) q)
 
 pub work-idle : (w : List ℕ) (budget : ℕ) → isAsked (table w) ≡ false
-    → (toldRefusal Idle ≡ replyOf w (workTurn budget (table w)) .says)
-    × ((0 ≡ replyOf w (workTurn budget (table w)) .steps) × (w ≡ replyOf w (workTurn budget (table w)) .words))
-unfolding replyOf workTurn
+    → (toldRefusal Idle ≡ responseOf w (workTurn budget (table w)) .says)
+    × ((0 ≡ responseOf w (workTurn budget (table w)) .steps) × (w ≡ responseOf w (workTurn budget (table w)) .words))
+unfolding responseOf workTurn
 work-idle w budget e =
-    let q : replyOf w (refuse Idle) ≡ replyOf w (workTurn budget (table w)) = ap (replyOf w) (sym (idle-so w _ e)) in
-    (ap (λ (x : Reply). x .says) q, (ap (λ (x : Reply). x .steps) q, ap (λ (x : Reply). x .words) q))
+    let q : responseOf w (refuse Idle) ≡ responseOf w (workTurn budget (table w)) = ap (responseOf w) (sym (idle-so w _ e)) in
+    (ap (λ (x : Response). x .says) q, (ap (λ (x : Response). x .steps) q, ap (λ (x : Response). x .words) q))
 
-pub work-asked : (w : List ℕ) (budget : ℕ) → isAsked (table w) ≡ true → worked w budget ≡ replyOf w (workTurn budget (table w))
+pub work-asked : (w : List ℕ) (budget : ℕ) → isAsked (table w) ≡ true → worked w budget ≡ responseOf w (workTurn budget (table w))
 unfolding worked workTurn
-work-asked w budget e = ap (replyOf w) (sym (asked-so w _ e))
+work-asked w budget e = ap (responseOf w) (sym (asked-so w _ e))
 
 -- the room for what a question opens, region by region
 module _ (w : List ℕ) (h : T (wellFormed w)) (q : Question) where

@@ -12,7 +12,7 @@ use Rattle.model.specs.Image.{words, table}
 use Rattle.model.specs.Formed.{wellFormed}
 use Rattle.model.specs.Rules.{rule}
 use Rattle.model.specs.Room.{roomFor, room}
-use Rattle.model.specs.Calls.{Reply, replyOf, workedTurn}
+use Rattle.model.specs.Calls.{Response, responseOf, workedTurn}
 use Rattle.model.specs.Told.{toldAnswer}
 use Rattle.model.specs.declared.Answer.{Answer}
 use Rattle.model.specs.declared.Answer.the-variants as A
@@ -84,12 +84,12 @@ module _ (w₀ : List ℕ) (budget : ℕ) where
 
   -- the answer, by what the whole comes to
   tells : (y : Roomed Store Pair Failure Refusal) (a : Answer) (k : ℕ) (v : List ℕ) → whole ≡ y
-      → toldAnswer a ≡ replyOf w₀ (workedTurn budget y) .says → k ≡ replyOf w₀ (workedTurn budget y) .steps → v ≡ replyOf w₀ (workedTurn budget y) .words
+      → toldAnswer a ≡ responseOf w₀ (workedTurn budget y) .says → k ≡ responseOf w₀ (workedTurn budget y) .steps → v ≡ responseOf w₀ (workedTurn budget y) .words
       → Tells w₀ budget a k v
   unfolding worked
   tells y a k v e s t u =
-      let q : replyOf w₀ (workedTurn budget y) ≡ replyOf w₀ (workedTurn budget whole) = ap (λ (z : Roomed Store Pair Failure Refusal). replyOf w₀ (workedTurn budget z)) (sym e) in
-      record { says = s ∙ ap (λ (z : Reply). z .says) q; steps = t ∙ ap (λ (z : Reply). z .steps) q; leaves = u ∙ ap (λ (z : Reply). z .words) q }
+      let q : responseOf w₀ (workedTurn budget y) ≡ responseOf w₀ (workedTurn budget whole) = ap (λ (z : Roomed Store Pair Failure Refusal). responseOf w₀ (workedTurn budget z)) (sym e) in
+      record { says = s ∙ ap (λ (z : Response). z .says) q; steps = t ∙ ap (λ (z : Response). z .steps) q; leaves = u ∙ ap (λ (z : Response). z .words) q }
 
   module _ (steps : ℕ) (w : List ℕ) (h : Running w₀ budget steps w) where
     -- nothing pending
@@ -98,7 +98,7 @@ module _ (w₀ : List ℕ) (budget : ℕ) where
     none-pending (x ∷ l) z = absurd (omega arith)
 
     pub running-yes : length (pendingIn w) ≤ 0 → Tells w₀ budget A.Yes steps w
-    unfolding replyOf workedTurn
+    unfolding responseOf workedTurn
     running-yes z =
         let e : pendingIn w ≡ [] = none-pending (pendingIn w) z in
         let r : whole ≡ after-roomed steps (work rule room (budget - steps) (storeOf w) []) = h .rest ∙ ap (λ (l : List Pair). after-roomed steps (work rule room (budget - steps) (storeOf w) l)) e in
@@ -117,20 +117,20 @@ module _ (w₀ : List ℕ) (budget : ℕ) where
 
       -- the budget used
       pub running-more : steps ≡ budget → Tells w₀ budget A.More steps w
-      unfolding replyOf workedTurn
+      unfolding responseOf workedTurn
       running-more e =
           tells (answered (more-at (storeOf w) (beforeLast w ++ (lastPair w ∷ [])))) A.More steps w
           (loop-more rule room budget whole steps (storeOf w) (beforeLast w) (lastPair w) here e) refl e as-found
 
       module _ (lt : steps < budget) (v : List ℕ) where
         pub running-failed : (f : Failure) → CameAt (Failed f) w v → Tells w₀ budget (A.Failed f) (steps + 1) v
-        unfolding replyOf workedTurn
+        unfolding responseOf workedTurn
         running-failed f k =
             tells (answered (fail-in (steps + 1) f (k .0))) (A.Failed f) (steps + 1) v
             (loop-fails rule room budget whole steps (storeOf w) (beforeLast w) (lastPair w) here lt f (k .0) (k .1 .0) (k .1 .1 .0)) refl refl (k .1 .1 .1)
 
         pub running-refused : (r : Refusal) → CameAt (Refused r) w v → Tells w₀ budget (A.Refused r) steps v
-        unfolding replyOf workedTurn
+        unfolding responseOf workedTurn
         running-refused r k =
             tells (refused-in steps r (storeOf w) (beforeLast w ++ (lastPair w ∷ []))) (A.Refused r) steps v
             (loop-lacks rule room budget whole steps (storeOf w) (beforeLast w) (lastPair w) here lt r (k .0)) refl refl (k .1 ∙ as-found)

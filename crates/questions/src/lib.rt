@@ -15,7 +15,7 @@ ghost use Rattle.model.specs.Format.{idle};
 ghost use Rattle.model.specs.Table.{tableOf};
 ghost use Rattle.model.specs.Image.{table};
 ghost use Rattle.model.specs.Formed.{wellFormed};
-ghost use Rattle.model.specs.Calls.{replyOf, isRecorded, recorded, pairsOf, askTurn, workTurn, abandonTurn};
+ghost use Rattle.model.specs.Calls.{responseOf, isRecorded, recorded, pairsOf, askTurn, workTurn, abandonTurn};
 ghost use Rattle.model.specs.Told.{toldReply, toldAnswer};
 ghost use Rattle.image.specs.Shown.{Shows, Shown, ShowsAs, ShownAs, storeOf, pendingIn, pendingTo};
 ghost use Rattle.questions.specs.Asking.{Roomy, Fitness, worked};
@@ -109,8 +109,8 @@ fn put_pairs(image: &mut [u32], q: Question)
 // Asks a question.
 pub fn ask(image: &mut [u32], q: Question) -> Reply
     requires { ⌜ T (wellFormed (now image)) ⌝ }
-    ensures { λ r. ⌜ toldReply r ≡ replyOf (now (image .entry)) (askTurn q (table (now (image .entry)))) .says ⌝ }
-    ensures { λ _. ⌜ now (image .exit) ≡ replyOf (now (image .entry)) (askTurn q (table (now (image .entry)))) .words ⌝ }
+    ensures { λ r. ⌜ toldReply r ≡ responseOf (now (image .entry)) (askTurn q (table (now (image .entry)))) .says ⌝ }
+    ensures { λ _. ⌜ now (image .exit) ≡ responseOf (now (image .entry)) (askTurn q (table (now (image .entry)))) .words ⌝ }
 {
     let fit = fitness(image, q);
     if let Reply::Refused(r) = fit {
@@ -165,9 +165,9 @@ fn instalment(image: &mut [u32], budget: u32) -> Instalment
 // Works the question that is asked.
 pub fn work(image: &mut [u32], budget: u32) -> Instalment
     requires { ⌜ T (wellFormed (now image)) ⌝ }
-    ensures { λ r. ⌜ toldAnswer (r .answer) ≡ replyOf (now (image .entry)) (workTurn budget (table (now (image .entry)))) .says ⌝ }
-    ensures { λ r. ⌜ r .steps ≡ replyOf (now (image .entry)) (workTurn budget (table (now (image .entry)))) .steps ⌝ }
-    ensures { λ _. ⌜ now (image .exit) ≡ replyOf (now (image .entry)) (workTurn budget (table (now (image .entry)))) .words ⌝ }
+    ensures { λ r. ⌜ toldAnswer (r .answer) ≡ responseOf (now (image .entry)) (workTurn budget (table (now (image .entry)))) .says ⌝ }
+    ensures { λ r. ⌜ r .steps ≡ responseOf (now (image .entry)) (workTurn budget (table (now (image .entry)))) .steps ⌝ }
+    ensures { λ _. ⌜ now (image .exit) ≡ responseOf (now (image .entry)) (workTurn budget (table (now (image .entry)))) .words ⌝ }
 {
     if !image::is_asked(image) {
         return Instalment {
@@ -181,8 +181,8 @@ pub fn work(image: &mut [u32], budget: u32) -> Instalment
 // Gives the question up: pending is emptied, and the image idle.
 pub fn abandon(image: &mut [u32]) -> Reply
     requires { ⌜ T (wellFormed (now image)) ⌝ }
-    ensures { λ r. ⌜ toldReply r ≡ replyOf (now (image .entry)) (abandonTurn (table (now (image .entry)))) .says ⌝ }
-    ensures { λ _. ⌜ now (image .exit) ≡ replyOf (now (image .entry)) (abandonTurn (table (now (image .entry)))) .words ⌝ }
+    ensures { λ r. ⌜ toldReply r ≡ responseOf (now (image .entry)) (abandonTurn (table (now (image .entry)))) .says ⌝ }
+    ensures { λ _. ⌜ now (image .exit) ≡ responseOf (now (image .entry)) (abandonTurn (table (now (image .entry)))) .words ⌝ }
 {
     if !image::is_asked(image) {
         return Reply::Refused(Refusal::Idle);

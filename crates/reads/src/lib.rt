@@ -8,13 +8,13 @@ ghost use mathlib.Core.Path.{_≡_};
 ghost use lib.Dec.{T};
 ghost use Rattle.model.specs.Image.{table};
 ghost use Rattle.model.specs.Formed.{wellFormed};
-ghost use Rattle.model.specs.Calls.{replyOf, readEntryTurn, readRecordTurn, readDisjointTurn};
+ghost use Rattle.model.specs.Calls.{responseOf, readEntryTurn, readRecordTurn, readDisjointTurn};
 ghost use Rattle.model.specs.Told.{toldEntryRead, toldRecord, toldDisjointness};
 
 // Reads an entry out.
 pub fn entry_in(image: &[u32], n: u32) -> EntryRead
     requires { ⌜ T (wellFormed (now image)) ⌝ }
-    ensures { λ r. ⌜ toldEntryRead r ≡ replyOf (now (image .entry)) (readEntryTurn n (table (now (image .entry)))) .says ⌝ }
+    ensures { λ r. ⌜ toldEntryRead r ≡ responseOf (now (image .entry)) (readEntryTurn n (table (now (image .entry)))) .says ⌝ }
 {
     if image::entries_count(image) <= n {
         return EntryRead::Refused(Refusal::BadNumber);
@@ -25,7 +25,7 @@ pub fn entry_in(image: &[u32], n: u32) -> EntryRead
 // Reads record n of a region, 1 to 6, as it stands.
 pub fn record_in(image: &[u32], region: u32, n: u32) -> Record
     requires { ⌜ T (wellFormed (now image)) ⌝ }
-    ensures { λ r. ⌜ toldRecord r ≡ replyOf (now (image .entry)) (readRecordTurn region n (now (image .entry))) .says ⌝ }
+    ensures { λ r. ⌜ toldRecord r ≡ responseOf (now (image .entry)) (readRecordTurn region n (now (image .entry))) .says ⌝ }
 {
     match region {
         1 => entry_record(image, n),
@@ -41,7 +41,7 @@ pub fn record_in(image: &[u32], region: u32, n: u32) -> Record
 // A record of region 1.
 fn entry_record(image: &[u32], n: u32) -> Record
     requires { ⌜ T (wellFormed (now image)) ⌝ }
-    ensures { λ r. ⌜ toldRecord r ≡ replyOf (now (image .entry)) (readRecordTurn 1 n (now (image .entry))) .says ⌝ }
+    ensures { λ r. ⌜ toldRecord r ≡ responseOf (now (image .entry)) (readRecordTurn 1 n (now (image .entry))) .says ⌝ }
 {
     if image::entries_count(image) <= n {
         return Record::Refused(Refusal::BadNumber);
@@ -67,7 +67,7 @@ fn entry_record(image: &[u32], n: u32) -> Record
 // A record of region 2.
 fn field_record(image: &[u32], n: u32) -> Record
     requires { ⌜ T (wellFormed (now image)) ⌝ }
-    ensures { λ r. ⌜ toldRecord r ≡ replyOf (now (image .entry)) (readRecordTurn 2 n (now (image .entry))) .says ⌝ }
+    ensures { λ r. ⌜ toldRecord r ≡ responseOf (now (image .entry)) (readRecordTurn 2 n (now (image .entry))) .says ⌝ }
 {
     if image::fields_count(image) <= n {
         return Record::Refused(Refusal::BadNumber);
@@ -85,7 +85,7 @@ fn field_record(image: &[u32], n: u32) -> Record
 // A record of region 3.
 fn bound_record(image: &[u32], n: u32) -> Record
     requires { ⌜ T (wellFormed (now image)) ⌝ }
-    ensures { λ r. ⌜ toldRecord r ≡ replyOf (now (image .entry)) (readRecordTurn 3 n (now (image .entry))) .says ⌝ }
+    ensures { λ r. ⌜ toldRecord r ≡ responseOf (now (image .entry)) (readRecordTurn 3 n (now (image .entry))) .says ⌝ }
 {
     if image::bounds_count(image) <= n {
         return Record::Refused(Refusal::BadNumber);
@@ -103,7 +103,7 @@ fn bound_record(image: &[u32], n: u32) -> Record
 // A record of region 4.
 fn visited_record(image: &[u32], n: u32) -> Record
     requires { ⌜ T (wellFormed (now image)) ⌝ }
-    ensures { λ r. ⌜ toldRecord r ≡ replyOf (now (image .entry)) (readRecordTurn 4 n (now (image .entry))) .says ⌝ }
+    ensures { λ r. ⌜ toldRecord r ≡ responseOf (now (image .entry)) (readRecordTurn 4 n (now (image .entry))) .says ⌝ }
 {
     if image::visited_count(image) <= n {
         return Record::Refused(Refusal::BadNumber);
@@ -119,7 +119,7 @@ fn visited_record(image: &[u32], n: u32) -> Record
 // A record of region 5.
 fn pending_record(image: &[u32], n: u32) -> Record
     requires { ⌜ T (wellFormed (now image)) ⌝ }
-    ensures { λ r. ⌜ toldRecord r ≡ replyOf (now (image .entry)) (readRecordTurn 5 n (now (image .entry))) .says ⌝ }
+    ensures { λ r. ⌜ toldRecord r ≡ responseOf (now (image .entry)) (readRecordTurn 5 n (now (image .entry))) .says ⌝ }
 {
     if image::pending_count(image) <= n {
         return Record::Refused(Refusal::BadNumber);
@@ -135,7 +135,7 @@ fn pending_record(image: &[u32], n: u32) -> Record
 // A record of region 6.
 fn equal_record(image: &[u32], n: u32) -> Record
     requires { ⌜ T (wellFormed (now image)) ⌝ }
-    ensures { λ r. ⌜ toldRecord r ≡ replyOf (now (image .entry)) (readRecordTurn 6 n (now (image .entry))) .says ⌝ }
+    ensures { λ r. ⌜ toldRecord r ≡ responseOf (now (image .entry)) (readRecordTurn 6 n (now (image .entry))) .says ⌝ }
 {
     if image::equals_count(image) <= n {
         return Record::Refused(Refusal::BadNumber);
@@ -151,7 +151,7 @@ fn equal_record(image: &[u32], n: u32) -> Record
 // Whether two entries share no value.
 pub fn disjoint_in(image: &[u32], a: u32, b: u32) -> Disjointness
     requires { ⌜ T (wellFormed (now image)) ⌝ }
-    ensures { λ r. ⌜ toldDisjointness r ≡ replyOf (now (image .entry)) (readDisjointTurn a b (table (now (image .entry)))) .says ⌝ }
+    ensures { λ r. ⌜ toldDisjointness r ≡ responseOf (now (image .entry)) (readDisjointTurn a b (table (now (image .entry)))) .says ⌝ }
 {
     if image::entries_count(image) <= a {
         return Disjointness::Refused(Refusal::BadNumber);

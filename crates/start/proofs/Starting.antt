@@ -15,7 +15,7 @@ use Rattle.model.specs.Format.{regions, newest, headerWords, idle}
 use Rattle.model.specs.Table.{Capacities, stateOf}
 use Rattle.model.specs.Parts.{triples, bodies, image}
 use Rattle.model.specs.Image.{region, packed, sizeOf, inOrder, imageLength, frontAs, partsOf, wordsAs, words}
-use Rattle.model.specs.Calls.{emptyTable, allSmall, capacitiesRight, start, replyOf, provided}
+use Rattle.model.specs.Calls.{emptyTable, allSmall, capacitiesRight, start, responseOf, provided}
 use Rattle.model.specs.Told.{done, toldRefusal}
 use Rattle.model.specs.declared.Refusal.the-variants.{BadCapacity}
 use Rattle.laws.proofs.Tests.{of-true, nth, eq-of}
@@ -98,14 +98,14 @@ module _ (names functor : ℕ) (c : Capacities) (w : List ℕ) where
     sizes-small e = nth _ 0 (right e)
 
     pub start-refused : not r ≡ true → (toldRefusal BadCapacity ≡ start names functor c w .says) × (w ≡ start names functor c w .words)
-    unfolding start replyOf provided
+    unfolding start responseOf provided
     start-refused e =
         let f : capacitiesRight names functor c w ≡ false = sym said ∙ not-true r e in
         (rw f, rw f)
 
     pub start-done : not r ≡ false → (u v : List ℕ) → u ≡ replicate (length w) 0 → v ≡ headed u names functor c
         → (done [] ≡ start names functor c w .says) × (v ≡ start names functor c w .words)
-    unfolding start replyOf provided
+    unfolding start responseOf provided
     start-done e u v p q =
         let t : capacitiesRight names functor c w ≡ true = sym said ∙ not-false r e in
         (rw t, rw t (q ∙ ap (λ (l : List ℕ). headed l names functor c) p ∙ started names functor c (length w) (right-size (right e))))

@@ -15,7 +15,7 @@ ghost use Rattle.image.specs.Laid.{Laid};
 ghost use Rattle.image.specs.Shown.{Shown, entriesOf, boundsAll, entriesTo};
 ghost use Rattle.image.specs.Records.{boundAt};
 ghost use Rattle.storage.specs.Bounds.{belongsTo, isBound};
-ghost use Rattle.storage.specs.Replies.{boundReply, enterReply, exitReply};
+ghost use Rattle.storage.specs.Replies.{boundResponse, enterResponse, exitResponse};
 
 // The last level.
 const LEVEL_MOST: u32 = 4294967295;
@@ -95,8 +95,8 @@ pub fn repeats_bound(image: &[u32], n: u32, v: u32, side: u32, b: u32) -> bool
 // Puts b as a bound of v on a side, unless it would repeat one.
 pub fn put_bound(image: &mut [u32], v: u32, side: u32, b: u32) -> Reply
     requires { ⌜ T (wellFormed (now image)) ⌝ }
-    ensures { λ r. ⌜ toldReply r ≡ boundReply (now (image .entry)) v side b .says ⌝ }
-    ensures { λ _. ⌜ now (image .exit) ≡ boundReply (now (image .entry)) v side b .words ⌝ }
+    ensures { λ r. ⌜ toldReply r ≡ boundResponse (now (image .entry)) v side b .says ⌝ }
+    ensures { λ _. ⌜ now (image .exit) ≡ boundResponse (now (image .entry)) v side b .words ⌝ }
 {
     let n = image::bounds_count(image);
     if repeats_bound(image, n, v, side, b) {
@@ -130,8 +130,8 @@ pub fn set_var_level(image: &mut [u32], v: u32, l: u32)
 // Enters a level.
 pub fn enter_level(image: &mut [u32]) -> Reply
     requires { ⌜ Shown (now image) ⌝ }
-    ensures { λ r. ⌜ toldReply r ≡ enterReply (now (image .entry)) .says ⌝ }
-    ensures { λ _. ⌜ now (image .exit) ≡ enterReply (now (image .entry)) .words ⌝ }
+    ensures { λ r. ⌜ toldReply r ≡ enterResponse (now (image .entry)) .says ⌝ }
+    ensures { λ _. ⌜ now (image .exit) ≡ enterResponse (now (image .entry)) .words ⌝ }
 {
     let l = image::level(image);
     if l == LEVEL_MOST {
@@ -144,8 +144,8 @@ pub fn enter_level(image: &mut [u32]) -> Reply
 // Leaves a level.
 pub fn exit_level(image: &mut [u32]) -> Reply
     requires { ⌜ Shown (now image) ⌝ }
-    ensures { λ r. ⌜ toldReply r ≡ exitReply (now (image .entry)) .says ⌝ }
-    ensures { λ _. ⌜ now (image .exit) ≡ exitReply (now (image .entry)) .words ⌝ }
+    ensures { λ r. ⌜ toldReply r ≡ exitResponse (now (image .entry)) .says ⌝ }
+    ensures { λ _. ⌜ now (image .exit) ≡ exitResponse (now (image .entry)) .words ⌝ }
 {
     let l = image::level(image);
     if l == 0 {

@@ -11,7 +11,7 @@ use Rattle.model.specs.Format.{variable, upper}
 use Rattle.model.specs.Table.{Entry, Table, isAsked, entryAt, is, isAt}
 use Rattle.model.specs.Image.{words, table}
 use Rattle.model.specs.Formed.{wellFormed, isEntry}
-use Rattle.model.specs.Calls.{Reply, Turn, refuse, leave, replyOf, admission, provided, whenIdle, Call, turnOf, perform}
+use Rattle.model.specs.Calls.{Response, Turn, refuse, leave, responseOf, admission, provided, whenIdle, Call, turnOf, perform}
 use Rattle.model.specs.Told.{Told, done, toldRefusal}
 use Rattle.model.specs.declared.Refusal.{Refusal}
 use Rattle.model.specs.declared.Refusal.the-variants.{Busy}
@@ -20,47 +20,47 @@ use Rattle.model.specs.declared.Admission.the-variants.{Good, Unfit}
 use Rattle.laws.proofs.Replies.{refused-by, passed-by, good-formed, perform-formed, perform-unfit}
 
 -- a reply by its two parts
-pub record Replies (a : Told) (v : List ℕ) (r : Reply) : Type 0 where
+pub record Replies (a : Told) (v : List ℕ) (r : Response) : Type 0 where
   pub says : a ≡ r .says
   pub leaves : v ≡ r .words
 
-pub refused-as : (w : List ℕ) (r : Refusal) → Replies (toldRefusal r) w (replyOf w (refuse r))
-unfolding replyOf
+pub refused-as : (w : List ℕ) (r : Refusal) → Replies (toldRefusal r) w (responseOf w (refuse r))
+unfolding responseOf
 refused-as w r = record { says = refl; leaves = refl }
 
 -- a reply that is the same
-pub as-same : {a : Told} {v : List ℕ} {r s : Reply} → r ≡ s → Replies a v r → Replies a v s
-as-same e k = record { says = k .says ∙ ap (λ (x : Reply). x .says) e; leaves = k .leaves ∙ ap (λ (x : Reply). x .words) e }
+pub as-same : {a : Told} {v : List ℕ} {r s : Response} → r ≡ s → Replies a v r → Replies a v s
+as-same e k = record { says = k .says ∙ ap (λ (x : Response). x .says) e; leaves = k .leaves ∙ ap (λ (x : Response). x .words) e }
 
 -- the two sides of an image's admission: x is what `formed::admit` answers
 module _ (w : List ℕ) {x : Admission} (e : x ≡ admission w) where
-  pub unfit : (c : Call) {r : Refusal} → x ≡ Unfit r → replyOf w (refuse r) ≡ perform c w
+  pub unfit : (c : Call) {r : Refusal} → x ≡ Unfit r → responseOf w (refuse r) ≡ perform c w
   unfit c {r} u = sym (perform-unfit c w r (sym e ∙ u))
 
   pub good-image : x ≡ Good → T (wellFormed w)
   good-image g = good-formed w (sym e ∙ g)
 
-  pub good : (c : Call) → x ≡ Good → replyOf w (turnOf c w (table w)) ≡ perform c w
+  pub good : (c : Call) → x ≡ Good → responseOf w (turnOf c w (table w)) ≡ perform c w
   good c g = sym (perform-formed c w (good-image g))
 
 -- a test of a call, and what is done where it passes: refused, or gone on with
 module _ (w : List ℕ) (r : Refusal) (turn : Turn) (ok : Bool) where
-  pub stopped : ok ≡ false → Replies (toldRefusal r) w (replyOf w (provided ok r turn))
-  stopped e = as-same (ap (replyOf w) (sym (refused-by ok r turn e))) (refused-as w r)
+  pub stopped : ok ≡ false → Replies (toldRefusal r) w (responseOf w (provided ok r turn))
+  stopped e = as-same (ap (responseOf w) (sym (refused-by ok r turn e))) (refused-as w r)
 
-  pub gone-on : ok ≡ true → {a : Told} {v : List ℕ} → Replies a v (replyOf w turn) → Replies a v (replyOf w (provided ok r turn))
-  gone-on e k = as-same (ap (replyOf w) (sym (passed-by ok r turn e))) k
+  pub gone-on : ok ≡ true → {a : Told} {v : List ℕ} → Replies a v (responseOf w turn) → Replies a v (responseOf w (provided ok r turn))
+  gone-on e k = as-same (ap (responseOf w) (sym (passed-by ok r turn e))) k
 
   -- a read: only what it says
-  pub read-on : ok ≡ true → {a : Told} → a ≡ replyOf w turn .says → a ≡ replyOf w (provided ok r turn) .says
-  read-on e k = k ∙ ap (λ (x : Turn). replyOf w x .says) (sym (passed-by ok r turn e))
+  pub read-on : ok ≡ true → {a : Told} → a ≡ responseOf w turn .says → a ≡ responseOf w (provided ok r turn) .says
+  read-on e k = k ∙ ap (λ (x : Turn). responseOf w x .says) (sym (passed-by ok r turn e))
 
 -- 3, of the calls that are no reads, work or abandon
 module _ (w : List ℕ) (turn : Turn) where
-  pub busy : isAsked (table w) ≡ true → Replies (toldRefusal Busy) w (replyOf w (whenIdle (table w) turn))
+  pub busy : isAsked (table w) ≡ true → Replies (toldRefusal Busy) w (responseOf w (whenIdle (table w) turn))
   busy e = stopped w Busy turn (not (isAsked (table w))) (ap not e)
 
-  pub idle : isAsked (table w) ≡ false → {a : Told} {v : List ℕ} → Replies a v (replyOf w turn) → Replies a v (replyOf w (whenIdle (table w) turn))
+  pub idle : isAsked (table w) ≡ false → {a : Told} {v : List ℕ} → Replies a v (responseOf w turn) → Replies a v (responseOf w (whenIdle (table w) turn))
   idle e k = gone-on w Busy turn (not (isAsked (table w))) (ap not e) k
 
 -- entry numbers
@@ -83,8 +83,8 @@ module _ (es : List Entry) where
   second-no-entry a b h = rw (no-entry b h) (and-false (isEntry es a))
 
 -- what is done leaves the words of a table
-pub left-as : (w v : List ℕ) (t : Table) → v ≡ words t → Replies (done []) v (replyOf w (leave (done []) 0 t))
-unfolding replyOf
+pub left-as : (w v : List ℕ) (t : Table) → v ≡ words t → Replies (done []) v (responseOf w (leave (done []) 0 t))
+unfolding responseOf
 left-as w v t e = record { says = refl; leaves = e }
 
 -- a bound's three numbers

@@ -16,7 +16,7 @@ use Rattle.model.specs.Image.{word, words, table, fieldOf}
 use Rattle.model.specs.Formed.{wellFormed}
 use Rattle.model.specs.Making.{Making, spreadOf, putEntry, tooDeep}
 use Rattle.model.specs.Room.{firstLacking, deepEnough, fitting}
-use Rattle.model.specs.Calls.{Reply, replyOf, leaveBy, leaveIfRoom, madeTurn, fieldList, newAttrset, dynamicType, dynamicBit}
+use Rattle.model.specs.Calls.{Response, responseOf, leaveBy, leaveIfRoom, madeTurn, fieldList, newAttrset, dynamicType, dynamicBit}
 use Rattle.model.specs.Told.{Told, done, refused, bit}
 use Rattle.model.specs.declared.Dynamic.{Dynamic}
 use Rattle.laws.proofs.Entries.{more-length}
@@ -26,7 +26,7 @@ use Rattle.image.specs.Shown.{Within, Shows, Shown, storeOf, entriesOf, fieldsI
 use Rattle.image.specs.Records.{entryMade}
 use Rattle.image.proofs.Laying.{formed-shown, seen, shown}
 use Rattle.writes.proofs.Pending.{same-size}
-use Rattle.type_table.specs.Made.{attrsetReply, firstField, entriesIn}
+use Rattle.type_table.specs.Made.{attrsetResponse, firstField, entriesIn}
 use Rattle.type_table.proofs.Replies.{put-too-deep}
 use Rattle.type_table.proofs.WaysOut.{spread-none}
 
@@ -108,10 +108,10 @@ entry-room w v fs sv h = subst (λ (t : Table). length (t .store .entries) < t .
 -- what is told
 module _ (w l : List ℕ) (wide : Bool) (d : Dynamic) where
   abbrev pub Replied : Told → List ℕ → Type 0
-  Replied says v = (says ≡ attrsetReply w l wide d .says) × (v ≡ attrsetReply w l wide d .words)
+  Replied says v = (says ≡ attrsetResponse w l wide d .says) × (v ≡ attrsetResponse w l wide d .words)
 
-  replied : (r : Reply) → attrsetReply w l wide d ≡ r → Replied (r .says) (r .words)
-  replied r e = (ap (λ (q : Reply). q .says) (sym e), ap (λ (q : Reply). q .words) (sym e))
+  replied : (r : Response) → attrsetResponse w l wide d ≡ r → Replied (r .says) (r .words)
+  replied r e = (ap (λ (q : Response). q .says) (sym e), ap (λ (q : Response). q .words) (sym e))
 
   abbrev made : Making
   made = newAttrset (entriesOf w) (fieldsIn w) (fieldList l) wide d
@@ -121,26 +121,26 @@ module _ (w l : List ℕ) (wide : Bool) (d : Dynamic) where
   made-length = more-length (entriesOf w) _
 
   reply-full : storeOf w .capacities .entries < length (newAttrset (entriesOf w) (fieldsIn w) (fieldList l) wide d .after)
-      → attrsetReply w l wide d ≡ record { says = refused 5 (entriesRegion ∷ []); steps = 0; words = w }
-  unfolding replyOf madeTurn leaveIfRoom leaveBy fitting firstLacking deepEnough withEntries withFields
+      → attrsetResponse w l wide d ≡ record { says = refused 5 (entriesRegion ∷ []); steps = 0; words = w }
+  unfolding responseOf madeTurn leaveIfRoom leaveBy fitting firstLacking deepEnough withEntries withFields
   reply-full h = rw (lt-ltb (storeOf w .capacities .entries) (length (made .after)) h)
 
   reply-lacks : length (newAttrset (entriesOf w) (fieldsIn w) (fieldList l) wide d .after) ≤ storeOf w .capacities .entries
       → storeOf w .capacities .fields < length (fieldsIn w ++ fieldList l)
-      → attrsetReply w l wide d ≡ record { says = refused 5 (fieldsRegion ∷ []); steps = 0; words = w }
-  unfolding replyOf madeTurn leaveIfRoom leaveBy fitting firstLacking deepEnough withEntries withFields
+      → attrsetResponse w l wide d ≡ record { says = refused 5 (fieldsRegion ∷ []); steps = 0; words = w }
+  unfolding responseOf madeTurn leaveIfRoom leaveBy fitting firstLacking deepEnough withEntries withFields
   reply-lacks k h =
       rw (le-ltb (storeOf w .capacities .entries) (length (made .after)) k, lt-ltb (storeOf w .capacities .fields) (length (fieldsIn w ++ fieldList l)) h)
 
   reply-done : Within (table w) → length (newAttrset (entriesOf w) (fieldsIn w) (fieldList l) wide d .after) ≤ storeOf w .capacities .entries
       → length (fieldsIn w ++ fieldList l) ≤ storeOf w .capacities .fields → tooDeep (newAttrset (entriesOf w) (fieldsIn w) (fieldList l) wide d .after) ≡ false
-      → attrsetReply w l wide d
+      → attrsetResponse w l wide d
       ≡ record {
         says = done (newAttrset (entriesOf w) (fieldsIn w) (fieldList l) wide d .number ∷ []);
         steps = 0;
         words = words (entriesIn (fieldsTo w (fieldsIn w ++ fieldList l)) (newAttrset (entriesOf w) (fieldsIn w) (fieldList l) wide d .after));
       }
-  unfolding replyOf madeTurn leaveIfRoom leaveBy fitting firstLacking deepEnough withEntries withFields
+  unfolding responseOf madeTurn leaveIfRoom leaveBy fitting firstLacking deepEnough withEntries withFields
   reply-done k h f e =
       rw (le-ltb (storeOf w .capacities .entries) (length (made .after)) h, le-ltb (storeOf w .capacities .fields) (length (fieldsIn w ++ fieldList l)) f, le-ltb _ _ (k .held .bounds), le-ltb _ _ (k .held .visited), le-ltb _ _ (k .pending), le-ltb _ _ (k .held .equals), e)
 

@@ -9,14 +9,14 @@ use Rattle.model.specs.Format.{spreadMost, neg, inter, union}
 use Rattle.model.specs.Table.{Entry, Table, withEntries, entryAt}
 use Rattle.model.specs.Image.{table}
 use Rattle.model.specs.Making.{Making, spreadAt, spreadOf, putEntry, newEntry, withNegation, cachedAs, makeNeg}
-use Rattle.laws.specs.Good.{EntriesGood}
+use Rattle.laws.specs.Good.{EntriesGood, CachedLow}
 use Rattle.laws.proofs.Entries.{lt-or-ge, changed-length, x-known, y-known, spread-known}
 use Rattle.laws.proofs.NewEntries.{new-length}
 use Rattle.laws.proofs.Undone.{undoable-trans}
 use Rattle.laws.proofs.Negation.{Grown, neg-grown, Deep, deep-within}
 use Rattle.image.specs.Shown.{Shows, Shown, storeOf, entriesOf, fieldsIn}
 use Rattle.image.proofs.Laying.{seen, shown}
-use Rattle.type_table.specs.Made.{entriesIn, Added, CachedLow, Negatable, UndoesTo, NegatedIn}
+use Rattle.type_table.specs.Made.{entriesIn, Added, Negatable, UndoesTo, NegatedIn}
 use Rattle.type_table.specs.declared.Negated.{Negated}
 use Rattle.type_table.specs.declared.Negated.the-variants as N
 use Rattle.type_table.proofs.Rounds.{kind-known, neg-cached, neg-twice, neg-fresh, neg-over}

@@ -14,7 +14,7 @@ use Rattle.model.specs.Table.{Entry, Field, withEntries}
 use Rattle.model.specs.Image.{words, table}
 use Rattle.model.specs.Making.{Making, spreadAt, spreadOf, putEntry, makeNeg, tooDeep}
 use Rattle.model.specs.Room.{firstLacking, deepEnough, fitting}
-use Rattle.model.specs.Calls.{replyOf, leaveBy, leaveIfRoom, madeTurn}
+use Rattle.model.specs.Calls.{responseOf, leaveBy, leaveIfRoom, madeTurn}
 use Rattle.model.specs.Told.{done, refused}
 use Rattle.laws.specs.Good.{EntriesGood, Shallow}
 use Rattle.laws.specs.Growth.{EntriesKept}
@@ -22,29 +22,29 @@ use Rattle.laws.proofs.Entries.{lt-or-ge, more-length, more-old, more-last}
 use Rattle.laws.proofs.StepSound.{none-deep}
 use Rattle.laws.proofs.Negation.{Grown, neg-grown, neg-deep}
 use Rattle.image.specs.Shown.{Within, storeOf, entriesTo}
-use Rattle.type_table.specs.Made.{madeReply}
+use Rattle.type_table.specs.Made.{madeResponse}
 
 module _ (w : List ℕ) (m : Making) where
   -- "5 before 6": no room, with every word as found
-  pub made-full : storeOf w .capacities .entries < length (m .after) → madeReply w m ≡ record { says = refused 5 (entriesRegion ∷ []); steps = 0; words = w }
-  unfolding replyOf madeTurn leaveIfRoom leaveBy fitting firstLacking deepEnough withEntries
+  pub made-full : storeOf w .capacities .entries < length (m .after) → madeResponse w m ≡ record { says = refused 5 (entriesRegion ∷ []); steps = 0; words = w }
+  unfolding responseOf madeTurn leaveIfRoom leaveBy fitting firstLacking deepEnough withEntries
   made-full h = rw (lt-ltb (storeOf w .capacities .entries) (length (m .after)) h)
 
   -- with room, by the depth
   made-by : (deep : Bool) → Within (table w) → length (m .after) ≤ storeOf w .capacities .entries → tooDeep (m .after) ≡ deep
-      → madeReply w m ≡ cond deep (record { says = refused 6 []; steps = 0; words = w }) (record { says = done (m .number ∷ []); steps = 0; words = words (entriesTo w (m .after)) })
-  unfolding replyOf madeTurn leaveIfRoom leaveBy fitting firstLacking deepEnough withEntries
+      → madeResponse w m ≡ cond deep (record { says = refused 6 []; steps = 0; words = w }) (record { says = done (m .number ∷ []); steps = 0; words = words (entriesTo w (m .after)) })
+  unfolding responseOf madeTurn leaveIfRoom leaveBy fitting firstLacking deepEnough withEntries
   made-by true k h e =
       rw (le-ltb (storeOf w .capacities .entries) (length (m .after)) h, le-ltb _ _ (k .held .fields), le-ltb _ _ (k .held .bounds), le-ltb _ _ (k .held .visited), le-ltb _ _ (k .pending), le-ltb _ _ (k .held .equals), e)
   made-by false k h e =
       rw (le-ltb (storeOf w .capacities .entries) (length (m .after)) h, le-ltb _ _ (k .held .fields), le-ltb _ _ (k .held .bounds), le-ltb _ _ (k .held .visited), le-ltb _ _ (k .pending), le-ltb _ _ (k .held .equals), e)
 
   pub made-deep : Within (table w) → length (m .after) ≤ storeOf w .capacities .entries → tooDeep (m .after) ≡ true
-      → madeReply w m ≡ record { says = refused 6 []; steps = 0; words = w }
+      → madeResponse w m ≡ record { says = refused 6 []; steps = 0; words = w }
   made-deep = made-by true
 
   pub made-done : Within (table w) → length (m .after) ≤ storeOf w .capacities .entries → tooDeep (m .after) ≡ false
-      → madeReply w m ≡ record { says = done (m .number ∷ []); steps = 0; words = words (entriesTo w (m .after)) }
+      → madeResponse w m ≡ record { says = done (m .number ∷ []); steps = 0; words = words (entriesTo w (m .after)) }
   made-done = made-by false
 
 -- how deep a list of entries is

@@ -11,7 +11,7 @@ use Rattle.model.specs.Table.{Entry, Table, withEntries}
 use Rattle.model.specs.Image.{words, table}
 use Rattle.model.specs.Formed.{wellFormed}
 use Rattle.model.specs.Making.{Making, spreadAt, spreadOf, putEntry, newEntry, changed, withNegation}
-use Rattle.model.specs.Calls.{Reply}
+use Rattle.model.specs.Calls.{Response}
 use Rattle.model.specs.Told.{Told, done, refused}
 use Rattle.laws.proofs.Entries.{more-length}
 use Rattle.laws.proofs.NewEntries.{new-length}
@@ -19,7 +19,7 @@ use Rattle.laws.proofs.Formed.{sound-table}
 use Rattle.image.specs.Shown.{Shows, Shown, storeOf, entriesOf, entriesTo}
 use Rattle.image.specs.Records.{entryMade}
 use Rattle.image.proofs.Laying.{formed-shown, seen}
-use Rattle.type_table.specs.Made.{madeReply, entriesIn, Added}
+use Rattle.type_table.specs.Made.{madeResponse, entriesIn, Added}
 use Rattle.type_table.specs.declared.Negated.the-variants as N
 use Rattle.type_table.proofs.Replies.{made-full, made-deep, made-done, put-too-deep}
 
@@ -39,10 +39,10 @@ module _ (es : List Entry) (kind x y : ℕ) where
 
 -- what is told, and the words left
 abbrev pub MakesReply : List ℕ → Making → Told → List ℕ → Type 0
-MakesReply w m says v = (says ≡ madeReply w m .says) × (v ≡ madeReply w m .words)
+MakesReply w m says v = (says ≡ madeResponse w m .says) × (v ≡ madeResponse w m .words)
 
-pub replied : (w : List ℕ) (m : Making) (r : Reply) → madeReply w m ≡ r → MakesReply w m (r .says) (r .words)
-replied w m r e = (ap (λ (q : Reply). q .says) (sym e), ap (λ (q : Reply). q .words) (sym e))
+pub replied : (w : List ℕ) (m : Making) (r : Response) → madeResponse w m ≡ r → MakesReply w m (r .says) (r .words)
+replied w m r e = (ap (λ (q : Response). q .says) (sym e), ap (λ (q : Response). q .words) (sym e))
 
 module _ (w : List ℕ) (kind x y : ℕ) (good : T (wellFormed w)) where
   pub make-full : (number room : ℕ) → number ≡ length (entriesOf w) → room ≡ storeOf w .capacities .entries → room ≤ number

@@ -1,6 +1,6 @@
 -- What a making replies where the numbers are right and the table is idle, and what negation comes to before the depth is tested.
 -- Assumes nothing.
-use Prim.Native.Nat.{ℕ, suc, _*_, _≤_, _<_}
+use Prim.Native.Nat.{ℕ, suc, _≤_, _<_}
 use mathlib.Core.Path.{_≡_}
 use mathlib.Core.List.{List, [], _∷_, _++_}
 use mathlib.Core.Bool.{Bool, cond}
@@ -10,21 +10,21 @@ use Rattle.model.specs.Format.{spreadMost, attrset, neg}
 use Rattle.model.specs.Table.{Entry, Table, tableOf, withEntries, entryAt}
 use Rattle.model.specs.Image.{table}
 use Rattle.model.specs.Making.{Making, spreadAt, changed, withNegation, makeNeg, undone}
-use Rattle.model.specs.Calls.{Reply, replyOf, madeTurn, fieldList, newAttrset}
+use Rattle.model.specs.Calls.{Response, responseOf, madeTurn, fieldList, newAttrset}
 use Rattle.model.specs.declared.Dynamic.{Dynamic}
-use Rattle.laws.specs.Good.{EntriesGood}
+use Rattle.laws.specs.Good.{EntriesGood, CachedLow}
 use Rattle.image.specs.Shown.{Shows, Shown, storeOf, entriesOf, fieldsIn, fieldsTo}
 use Rattle.image.specs.Records.{entryMade}
 use Rattle.type_table.specs.declared.Negated.{Negated}
 use Rattle.type_table.specs.declared.Negated.the-variants as N
 
 -- the number, or NO ROOM, then TOO DEEP, with every word as found
-abbrev pub madeReply : List ℕ → Making → Reply
-madeReply w m = replyOf w (madeTurn (table w) m)
+abbrev pub madeResponse : List ℕ → Making → Response
+madeResponse w m = responseOf w (madeTurn (table w) m)
 
 -- the same for an attrset with these fields: NO ROOM for its entry, then for its fields
-abbrev pub attrsetReply : List ℕ → List ℕ → Bool → Dynamic → Reply
-attrsetReply w l wide d = replyOf w (madeTurn (fieldsTo w (fieldsIn w ++ fieldList l)) (newAttrset (entriesOf w) (fieldsIn w) (fieldList l) wide d))
+abbrev pub attrsetResponse : List ℕ → List ℕ → Bool → Dynamic → Response
+attrsetResponse w l wide d = responseOf w (madeTurn (fieldsTo w (fieldsIn w ++ fieldList l)) (newAttrset (entriesOf w) (fieldsIn w) (fieldList l) wide d))
 
 -- x of an attrset with so many fields, put behind so many
 abbrev pub firstField : ℕ → ℕ → ℕ
@@ -44,10 +44,6 @@ pub record Added (t : Table) (kind x y spread n : ℕ) (r : Negated) (v : List �
       → (r ≡ N.Number (length (t .store .entries)))
       × Shows v (entriesIn t (changed (withNegation (suc (length (t .store .entries)))) (t .store .entries ++ (entryMade kind x y 0 0 spread ∷ [])) n))
   pub full : t .store .capacities .entries ≤ length (t .store .entries) → (r ≡ N.Full) × Shows v t
-
--- A cached negation has at most 1,025 times the spread of its owner: so in a well formed image, and so after each making.
-abbrev pub CachedLow : List Entry → Type 0
-CachedLow es = (i c : ℕ) → i < length es → entryAt es i .negation ≡ suc c → spreadAt es c ≤ 1025 * spreadAt es i
 
 -- Neg(n) can be made here, room or not
 pub record Negatable (w : List ℕ) (n : ℕ) : Type 0 where

@@ -16,7 +16,7 @@ ghost use Rattle.model.specs.Told.{bit, toldMade};
 ghost use Rattle.laws.specs.Good.{Shallow};
 ghost use Rattle.image.specs.Laid.{Laid};
 ghost use Rattle.image.specs.Shown.{Shows, Shown, storeOf, entriesOf, fieldsIn, entriesTo, fieldsTo};
-ghost use Rattle.type_table.specs.Made.{madeReply, attrsetReply, firstField, Components, Added, Negatable, NegatedIn};
+ghost use Rattle.type_table.specs.Made.{madeResponse, attrsetResponse, firstField, Components, Added, Negatable, NegatedIn};
 
 // How far an entry of this kind, with these words, spreads.
 fn spread_of(image: &[u32], kind: u32, x: u32, y: u32) -> u32
@@ -38,8 +38,8 @@ fn spread_of(image: &[u32], kind: u32, x: u32, y: u32) -> u32
 pub fn make(image: &mut [u32], kind: u32, x: u32, y: u32) -> Made
     requires { ⌜ T (wellFormed (now image)) ⌝ }
     requires { ⌜ Components (entriesOf (now image)) kind x y ⌝ }
-    ensures { λ r. ⌜ toldMade r ≡ madeReply (now (image .entry)) (newEntry (entriesOf (now (image .entry))) kind x y) .says ⌝ }
-    ensures { λ _. ⌜ now (image .exit) ≡ madeReply (now (image .entry)) (newEntry (entriesOf (now (image .entry))) kind x y) .words ⌝ }
+    ensures { λ r. ⌜ toldMade r ≡ madeResponse (now (image .entry)) (newEntry (entriesOf (now (image .entry))) kind x y) .says ⌝ }
+    ensures { λ _. ⌜ now (image .exit) ≡ madeResponse (now (image .entry)) (newEntry (entriesOf (now (image .entry))) kind x y) .words ⌝ }
 {
     let number = image::entries_count(image);
     if image::entries_capacity(image) <= number {
@@ -144,8 +144,8 @@ pub fn negate(image: &mut [u32], n: u32) -> Negated
 pub fn make_neg(image: &mut [u32], n: u32) -> Made
     requires { ⌜ T (wellFormed (now image)) ⌝ }
     requires { ⌜ n < length (entriesOf (now image)) ⌝ }
-    ensures { λ r. ⌜ toldMade r ≡ madeReply (now (image .entry)) (makeNeg (entriesOf (now (image .entry))) n) .says ⌝ }
-    ensures { λ _. ⌜ now (image .exit) ≡ madeReply (now (image .entry)) (makeNeg (entriesOf (now (image .entry))) n) .words ⌝ }
+    ensures { λ r. ⌜ toldMade r ≡ madeResponse (now (image .entry)) (makeNeg (entriesOf (now (image .entry))) n) .says ⌝ }
+    ensures { λ _. ⌜ now (image .exit) ≡ madeResponse (now (image .entry)) (makeNeg (entriesOf (now (image .entry))) n) .words ⌝ }
 {
     let old = image::entries_count(image);
     let Negated::Number(k) = negate(image, n) else {
@@ -218,8 +218,8 @@ fn wide(x: u32) -> usize
 // Makes an attrset with the fields of a list, triples of a name, an entry and optional.
 pub fn make_attrset(image: &mut [u32], fields: &[u32], is_open: bool, dynamic: Dynamic) -> Made
     requires { ⌜ T (wellFormed (now image)) ⌝ }
-    ensures { λ r. ⌜ toldMade r ≡ attrsetReply (now (image .entry)) (now (fields .entry)) is_open dynamic .says ⌝ }
-    ensures { λ _. ⌜ now (image .exit) ≡ attrsetReply (now (image .entry)) (now (fields .entry)) is_open dynamic .words ⌝ }
+    ensures { λ r. ⌜ toldMade r ≡ attrsetResponse (now (image .entry)) (now (fields .entry)) is_open dynamic .says ⌝ }
+    ensures { λ _. ⌜ now (image .exit) ≡ attrsetResponse (now (image .entry)) (now (fields .entry)) is_open dynamic .words ⌝ }
 {
     let number = image::entries_count(image);
     if image::entries_capacity(image) <= number {

@@ -223,16 +223,3 @@ module _ {rs : List Region} {ps : List Part} {w front : List ℕ} (s : ShowsPart
       let m : count w k ≡ p .count = rw (s .is) (count-is front (s .nine) (s .fit) k low high) in
       let room = before-end (p .width) (p .count) (p .capacity) (omega arith) in
       rw m (shows-stored (p .width * p .count) r (p .count + 1) (omega arith) (omega arith))
-
--- a word of the first nine
-pub shows-front : {rs : List Region} {ps : List Part} {w front : List ℕ} → ShowsParts rs w front ps → (i v : ℕ) → i < 9 → ShowsParts rs (set w i v) (set front i v) ps
-unfolding image
-shows-front {rs} {ps} {w} {front} s i v h = record {
-  nine = length-set front i v ∙ s .nine;
-  fit = s .fit;
-  is = rw (s .is) (set-append-left front (triples (9 + 3 * length ps) ps ++ bodies ps) i v (rw (s .nine) h));
-}
-
-pub shows-long : {rs : List Region} {ps : List Part} {w front : List ℕ} → ShowsParts rs w front ps → 9 ≤ length w
-unfolding image
-shows-long {rs} {ps} {w} {front} s = rw (s .is, length-append front (triples (9 + 3 * length ps) ps ++ bodies ps)) (let n = s .nine in omega arith)

@@ -4,7 +4,7 @@ use mathlib.Core.Path.{ap, _∙_}
 use mathlib.Core.Bool.{Bool}
 use denote.Ref.{now}
 use Rattle.model.specs.Told.{Told}
-use Rattle.model.specs.Calls.{Reply, perform, makesAttrset}
+use Rattle.model.specs.Calls.{Response, perform, makesAttrset}
 use Rattle.model.specs.declared.Dynamic.{Dynamic}
 use Rattle.capi.specs.Answers.{answerOf}
 use Rattle.capi.proofs.Telling.{both}
@@ -30,9 +30,9 @@ returns : tie.Need-returns
 returns c =
     let s = c .before .before .before .before .before .before .before .before .before in
     let d = c .before .before .before .make-attrset .ensures in
-    let call : Bool → Dynamic → Reply = λ o t. perform (makesAttrset (now (s .args .fields)) o t) (now (s .args .image)) in
+    let call : Bool → Dynamic → Response = λ o t. perform (makesAttrset (now (s .args .fields)) o t) (now (s .args .image)) in
     let e = both call _ _ _ _ (c .before .before .before .before .before .before .flag .ensures) (c .before .before .before .before .before .dynamic-of .ensures) in
-    (c .of-made .ensures ∙ ap (λ (t : Told). answerOf 0 t) (d .0 ∙ ap (λ (r : Reply). r .says) e), d .1 ∙ ap (λ (r : Reply). r .words) e)
+    (c .of-made .ensures ∙ ap (λ (t : Told). answerOf 0 t) (d .0 ∙ ap (λ (r : Response). r .says) e), d .1 ∙ ap (λ (r : Response). r .words) e)
 
 pub sheafwinch-make-attrset-spec : {M : Type 1} → statement M
 sheafwinch-make-attrset-spec =

@@ -1,7 +1,7 @@
 -- Work: refused while idle, else an instalment.
 use mathlib.Core.Path.{sym, ap, _∙_}
 use borrow.Author.Tests.{not-true, not-false}
-use Rattle.model.specs.Calls.{Reply}
+use Rattle.model.specs.Calls.{Response}
 use Rattle.image.proofs.Laying.{formed-shown}
 use Rattle.questions.proofs.Asking.{work-idle, work-asked}
 use borrow.Author.Needs.{needs}
@@ -31,7 +31,7 @@ returns-2 : tie.Need-returns-2
 returns-2 c =
     let k = c .before .before .instalment .ensures in
     let e = work-asked _ (c .before .before .before .before .before .before .before .before .args .budget) (sym (c .before .before .before .before .before .is-asked .ensures) ∙ not-false _ (c .before .before .before .before .if1 .left)) in
-    (k .0 ∙ ap (λ (x : Reply). x .says) e, (k .1 .0 ∙ ap (λ (x : Reply). x .steps) e, k .1 .1 ∙ ap (λ (x : Reply). x .words) e))
+    (k .0 ∙ ap (λ (x : Response). x .says) e, (k .1 .0 ∙ ap (λ (x : Response). x .steps) e, k .1 .1 ∙ ap (λ (x : Response). x .words) e))
 
 pub work-spec : {M : Type 1} → statement M
 work-spec =

@@ -6,7 +6,7 @@ use denote.Ref.{now}
 use Rattle.model.specs.Table.{entryAt}
 use Rattle.model.specs.Formed.{isEntry}
 use Rattle.model.specs.Shapes as shapes
-use Rattle.model.specs.Calls.{readDisjointTurn, replyOf}
+use Rattle.model.specs.Calls.{readDisjointTurn, responseOf}
 use Rattle.model.specs.declared.Disjointness.the-variants as J
 use Rattle.image.specs.Shown.{graphIn, entriesOf}
 use Rattle.image.proofs.Laying.{formed-laid}
@@ -46,7 +46,7 @@ are-types-disjoint-requires c κs =
     (formed-laid _ (s .pre), (sound-table _ (s .pre) .store .good, (omega (arith, c .before .before .before .entries-count .ensures), omega (arith, c .before .entries-count2 .ensures))))
 
 returns-3 : tie.Need-returns-3
-unfolding readDisjointTurn replyOf
+unfolding readDisjointTurn responseOf
 returns-3 c =
     let s = c .before .before .before .before .before .before .before in
     let w = now (s .args .image) in
@@ -56,7 +56,7 @@ returns-3 c =
     (rw e)
 
 returns-4 : tie.Need-returns-4
-unfolding readDisjointTurn replyOf
+unfolding readDisjointTurn responseOf
 returns-4 c =
     let s = c .before .before .before .before .before .before .before in
     let w = now (s .args .image) in

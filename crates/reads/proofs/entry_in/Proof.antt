@@ -3,7 +3,7 @@ use native.Mathlib.Omega.{arith}
 use mathlib.Core.Path.{ap}
 use denote.Ref.{now}
 use Rattle.model.specs.Formed.{isEntry}
-use Rattle.model.specs.Calls.{readEntryTurn, replyOf}
+use Rattle.model.specs.Calls.{readEntryTurn, responseOf}
 use Rattle.model.specs.Told.{done, toldEntry}
 use Rattle.model.specs.declared.Entry.{Entry as EntryOut}
 use Rattle.image.specs.Shown.{entriesOf}
@@ -33,7 +33,7 @@ entry-requires c κs =
     (formed-laid _ (s .pre), omega (arith, c .before .entries-count .ensures))
 
 returns-2 : tie.Need-returns-2
-unfolding readEntryTurn replyOf
+unfolding readEntryTurn responseOf
 returns-2 c =
     let s = c .before .before .before .before in
     let w = now (s .args .image) in

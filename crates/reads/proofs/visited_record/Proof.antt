@@ -9,7 +9,7 @@ use Prim.Native.Nat.{ℕ}
 use lib.Dec.{ltb}
 use Rattle.model.specs.Format.{isRegion, widthOf}
 use Rattle.model.specs.Image.{count, table}
-use Rattle.model.specs.Calls.{readRecordTurn, replyOf}
+use Rattle.model.specs.Calls.{readRecordTurn, responseOf}
 use Rattle.model.specs.Told.{done}
 use Rattle.laws.proofs.Regions.{visited-coded}
 use Rattle.image.proofs.Laying.{formed-laid}
@@ -42,7 +42,7 @@ visited-word-requires-2 c κs =
     (formed-laid _ (s .pre), (omega (arith, c .before .before .visited-count .ensures), omega arith))
 
 returns-2 : tie.Need-returns-2
-unfolding readRecordTurn replyOf widthOf table
+unfolding readRecordTurn responseOf widthOf table
 returns-2 c =
     let s = c .before .before .before .before .before in
     let w = now (s .args .image) in

@@ -6,7 +6,7 @@ use Prim.Native.Nat.{ℕ, zero, suc, _+_, _-_, _≤_, _<_}
 use native.Mathlib.Omega.{arith}
 use Rattle.instalments.specs.Machine.{Outcome, fails, goes, Result, more-at, after}
 use Rattle.instalments.specs.Nested.{Nested, done, failed, stopped, counting, then, in-turn, ruled, nested-to, nested}
-use Rattle.instalments.specs.Whole.{End, well, Whole, nothing, goes-on, Part, here, inside, beyond}
+use Rattle.instalments.specs.Whole.{End, well, Whole, nothing, goes-on, Partly, here, inside, beyond}
 use Rattle.instalments.proofs.Roomless.{shown, run}
 use Rattle.instalments.proofs.Laws.{machine-in-turn}
 use Rattle.instalments.proofs.Whole.{stepped-goes, whole-goes, more-short}
@@ -16,14 +16,14 @@ module _ {T P F : Type 0} (rule : T → P → Outcome T P F) where
   abbrev Says : ℕ → T → List P → Nested T F → Type 0
   Says n t ps (done k u) = Whole rule t ps k (well u) × (k ≤ n)
   Says n t ps (failed k f u) = Unit {0}
-  Says n t ps (stopped u) = Part rule t ps n u
+  Says n t ps (stopped u) = Partly rule t ps n u
 
   abbrev Says-first : ℕ → T → P → Nested T F → Type 0
   Says-first n t p (done k u) =
-      ((ps : List P) (m : ℕ) (w : T) → Part rule u ps m w → Part rule t (p ∷ ps) (k + m) w)
+      ((ps : List P) (m : ℕ) (w : T) → Partly rule u ps m w → Partly rule t (p ∷ ps) (k + m) w)
       × ((ps : List P) (l : ℕ) (e : End T F) → Whole rule u ps l e → Whole rule t (p ∷ ps) (k + l) e) × (k ≤ n)
   Says-first n t p (failed k f u) = Unit {0}
-  Says-first n t p (stopped u) = (ps : List P) → Part rule t (p ∷ ps) n u
+  Says-first n t p (stopped u) = (ps : List P) → Partly rule t (p ∷ ps) n u
 
   says-counting : (n : ℕ) (t u : T) (p : P) (ps : List P) (k : ℕ) → Says-first n t p (done k u) → (x : Nested T F) → Says (n - k) u ps x → Says n t (p ∷ ps) (counting k x)
   unfolding counting
@@ -31,7 +31,7 @@ module _ {T P F : Type 0} (rule : T → P → Outcome T P F) where
   says-counting n t u p ps k h (failed l f v) a = tt
   says-counting n t u p ps k h (stopped v) a =
       let z : k + (n - k) ≡ n = omega (arith, h .2) in
-      subst (λ (m : ℕ). Part rule t (p ∷ ps) m v) z (h .0 ps (n - k) v a)
+      subst (λ (m : ℕ). Partly rule t (p ∷ ps) m v) z (h .0 ps (n - k) v a)
 
   says-then : (n : ℕ) (t : T) (p : P) (ps : List P) (x : Nested T F) (k : ℕ → T → Nested T F) → Says-first n t p x → ((s : ℕ) (u : T) → Says (n - s) u ps (k s u)) → Says n t (p ∷ ps) (then x k)
   unfolding then
@@ -52,7 +52,7 @@ module _ {T P F : Type 0} (rule : T → P → Outcome T P F) where
   says-opened n t u p qs g (stopped v) a =
       λ ps.
       let z : 1 + n ≡ suc n = omega arith in
-      subst (λ (m : ℕ). Part rule t (p ∷ ps) m v) z (inside g a)
+      subst (λ (m : ℕ). Partly rule t (p ∷ ps) m v) z (inside g a)
 
   says-ruled : (n : ℕ) (t : T) (p : P) (o : Outcome T P F) → rule t p ≡ o → (k : T → List P → Nested T F) → ((u : T) (qs : List P) → Says n u qs (k u qs)) → Says-first (suc n) t p (ruled o k)
   unfolding ruled
@@ -70,27 +70,27 @@ module _ {T P F : Type 0} (rule : T → P → Outcome T P F) where
   unfolding nested
   says-all n t ps = says-in-turn (λ m. nested-to rule m m) n (λ m le. says-nested m m (omega arith)) n (omega arith) t ps
 
-  pub stopped-part : (n : ℕ) (t u : T) (ps : List P) → in-turn (nested rule) n t ps ≡ stopped u → Part rule t ps n u
-  stopped-part n t u ps e = subst (λ (x : Nested T F). Says n t ps x) e (says-all n t ps)
+  pub stopped-partly : (n : ℕ) (t u : T) (ps : List P) → in-turn (nested rule) n t ps ≡ stopped u → Partly rule t ps n u
+  stopped-partly n t u ps e = subst (λ (x : Nested T F). Says n t ps x) e (says-all n t ps)
 
   -- the machine that never lacks room stops there too, whatever comes after
   after-more : (k : ℕ) (x : Result T P F) (u : T) (qs : List P) → x ≡ more-at u qs → after k x ≡ more-at u qs
   unfolding after
   after-more k x u qs e = ap (after k) e
 
-  part-run : {t u : T} {ps : List P} {n : ℕ} → Part rule t ps n u → (rest : List P) → (qs : List P) × (run rule n t (ps ++ rest) ≡ more-at u qs)
+  partly-run : {t u : T} {ps : List P} {n : ℕ} → Partly rule t ps n u → (rest : List P) → (qs : List P) × (run rule n t (ps ++ rest) ≡ more-at u qs)
   unfolding run
-  part-run (here {t = t} {p = p} {ps = ps}) rest = (p ∷ (ps ++ rest), refl)
-  part-run (inside {t = t} {u = u} {v = v} {p = p} {ps = ps} {qs = qs} {n = n} h w) rest =
-      let k = part-run w (ps ++ rest) in
+  partly-run (here {t = t} {p = p} {ps = ps}) rest = (p ∷ (ps ++ rest), refl)
+  partly-run (inside {t = t} {u = u} {v = v} {p = p} {ps = ps} {qs = qs} {n = n} h w) rest =
+      let k = partly-run w (ps ++ rest) in
       let z : 1 + n ≡ suc n = omega arith in (
         k .0,
         ap (λ (m : ℕ). run rule m t (p ∷ (ps ++ rest))) z
             ∙ stepped-goes rule (λ x l. run rule n x (l ++ (ps ++ rest))) h
             ∙ after-more 1 (run rule n u (qs ++ (ps ++ rest))) v (k .0) (k .1),
       )
-  part-run (beyond {t = t} {u = u} {v = v} {w = w} {p = p} {ps = ps} {qs = qs} {k = k} {n = n} h x y) rest =
-      let l = part-run y rest in
+  partly-run (beyond {t = t} {u = u} {v = v} {w = w} {p = p} {ps = ps} {qs = qs} {k = k} {n = n} h x y) rest =
+      let l = partly-run y rest in
       let z : 1 + k + n ≡ suc (k + n) = omega arith in (
         l .0,
         ap (λ (m : ℕ). run rule m t (p ∷ (ps ++ rest))) z
@@ -99,19 +99,19 @@ module _ {T P F : Type 0} (rule : T → P → Outcome T P F) where
             (whole-goes rule x n (ps ++ rest) ∙ after-more k (run rule n v (ps ++ rest)) w (l .0) (l .1)),
       )
 
-  part-more : {t u : T} {ps : List P} {n : ℕ} → Part rule t ps n u → (qs : List P) × (run rule n t ps ≡ more-at u qs)
-  part-more {t} {u} {ps} {n} h = let k = part-run h [] in (k .0, ap (run rule n t) (sym (append-nil ps)) ∙ k .1)
+  partly-more : {t u : T} {ps : List P} {n : ℕ} → Partly rule t ps n u → (qs : List P) × (run rule n t ps ≡ more-at u qs)
+  partly-more {t} {u} {ps} {n} h = let k = partly-run h [] in (k .0, ap (run rule n t) (sym (append-nil ps)) ∙ k .1)
 
-  pub part-stopped : {t u : T} {ps : List P} {n : ℕ} → Part rule t ps n u → in-turn (nested rule) n t ps ≡ stopped u
+  pub partly-stopped : {t u : T} {ps : List P} {n : ℕ} → Partly rule t ps n u → in-turn (nested rule) n t ps ≡ stopped u
   unfolding shown
-  part-stopped {t} {u} {ps} {n} h = sym (machine-in-turn rule n t ps) ∙ ap shown (part-more h .1)
+  partly-stopped {t} {u} {ps} {n} h = sym (machine-in-turn rule n t ps) ∙ ap shown (partly-more h .1)
 
   -- there is one table where it is stopped
-  pub part-same : {t u v : T} {ps : List P} {n : ℕ} → Part rule t ps n u → Part rule t ps n v → u ≡ v
-  part-same {t} {u} {v} {ps} {n} h k =
-      let e : _≡_ {A = Nested T F} (stopped u) (stopped v) = sym (part-stopped h) ∙ part-stopped k in
+  pub partly-same : {t u v : T} {ps : List P} {n : ℕ} → Partly rule t ps n u → Partly rule t ps n v → u ≡ v
+  partly-same {t} {u} {v} {ps} {n} h k =
+      let e : _≡_ {A = Nested T F} (stopped u) (stopped v) = sym (partly-stopped h) ∙ partly-stopped k in
       cc
 
   -- and it is stopped only before the whole is done
-  pub part-short : {t u : T} {ps : List P} {n k : ℕ} {e : End T F} → Part rule t ps n u → Whole rule t ps k e → n < k
-  part-short {u = u} {n = n} h w = let k = part-more h in more-short rule w n u (k .0) (k .1)
+  pub partly-short : {t u : T} {ps : List P} {n k : ℕ} {e : End T F} → Partly rule t ps n u → Whole rule t ps k e → n < k
+  partly-short {u = u} {n = n} h w = let k = partly-more h in more-short rule w n u (k .0) (k .1)

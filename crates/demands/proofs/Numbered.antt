@@ -10,7 +10,7 @@ use Rattle.model.specs.Image.{table}
 use Rattle.model.specs.Rules.{rule}
 use Rattle.model.specs.Room.{room}
 use Rattle.model.specs.Told.{Told, done, yes, more, failed, refused, toldRefusal, toldFailure}
-use Rattle.model.specs.Calls.{Reply, Turn, refuse, tell, leave, replyOf, workedTurn, workTurn, Call, turnOf, perform}
+use Rattle.model.specs.Calls.{Response, Turn, refuse, tell, leave, responseOf, workedTurn, workTurn, Call, turnOf, perform}
 use Rattle.model.specs.declared.Failure.{Failure}
 use Rattle.model.specs.declared.Failure.the-variants.{Mismatch, MissingField}
 use Rattle.model.specs.declared.Refusal.{Refusal}
@@ -18,39 +18,39 @@ use Rattle.laws.specs.Turns.{IsDone, Plainly}
 use Rattle.laws.proofs.Replies.{by-provided, by-admission}
 use Rattle.laws.proofs.Refused.{plainly, by-call}
 
-abbrev pub Known : Told → Type 0
-Known (done l) = Unit {0}
-Known yes = Unit {0}
-Known more = Unit {0}
-Known (failed n l) = (f : Failure) × (failed n l ≡ toldFailure f)
-Known (refused n l) = (r : Refusal) × (refused n l ≡ toldRefusal r)
+abbrev pub Numbered : Told → Type 0
+Numbered (done l) = Unit {0}
+Numbered yes = Unit {0}
+Numbered more = Unit {0}
+Numbered (failed n l) = (f : Failure) × (failed n l ≡ toldFailure f)
+Numbered (refused n l) = (r : Refusal) × (refused n l ≡ toldRefusal r)
 
-failure-known : (f : Failure) → Known (toldFailure f)
-failure-known (Mismatch sub sup) = (Mismatch sub sup, refl)
-failure-known (MissingField sub sup name) = (MissingField sub sup name, refl)
+failure-numbered : (f : Failure) → Numbered (toldFailure f)
+failure-numbered (Mismatch sub sup) = (Mismatch sub sup, refl)
+failure-numbered (MissingField sub sup name) = (MissingField sub sup name, refl)
 
-done-known : (a : Told) → IsDone a → Known a
-done-known (done l) h = tt
-done-known yes h = tt
-done-known more h = tt
-done-known (failed n l) h = absurd h
-done-known (refused n l) h = absurd h
+done-numbered : (a : Told) → IsDone a → Numbered a
+done-numbered (done l) h = tt
+done-numbered yes h = tt
+done-numbered more h = tt
+done-numbered (failed n l) h = absurd h
+done-numbered (refused n l) h = absurd h
 
 -- a turn, by what it says
 abbrev Says : Turn → Type 0
 Says (refuse r) = Unit {0}
-Says (tell a) = Known a
-Says (leave a k u) = Known a
+Says (tell a) = Numbered a
+Says (leave a k u) = Numbered a
 
 plain-says : (t : Table) (turn : Turn) → Plainly t turn → Says turn
 plain-says t (refuse r) h = tt
-plain-says t (tell a) h = done-known a h
-plain-says t (leave a k u) h = done-known a (h .0)
+plain-says t (tell a) h = done-numbered a h
+plain-says t (leave a k u) h = done-numbered a (h .0)
 
 worked-says : (budget : ℕ) (x : Roomed Store Pair Failure Refusal) → Says (workedTurn budget x)
 unfolding workedTurn
 worked-says budget (answered (yes-in k u)) = tt
-worked-says budget (answered (fail-in k f u)) = failure-known f
+worked-says budget (answered (fail-in k f u)) = failure-numbered f
 worked-says budget (answered (more-at u q)) = tt
 worked-says budget (refused-in k w u q) = (w, refl)
 
@@ -60,13 +60,13 @@ turn-says c ws t =
     by-call (λ (d : Call). Says (turnOf d ws t)) (λ d n. plain-says t (turnOf d ws t) (plainly d n ws t))
     (λ b. by-provided Says (isAsked t) (λ h. tt) (λ h. worked-says b (machine.work rule room b (t .store) (t .pending)))) c
 
-reply-says : (ws : List ℕ) (turn : Turn) → Says turn → Known (replyOf ws turn .says)
-unfolding replyOf
+reply-says : (ws : List ℕ) (turn : Turn) → Says turn → Numbered (responseOf ws turn .says)
+unfolding responseOf
 reply-says ws (refuse r) h = (r, refl)
 reply-says ws (tell a) h = h
 reply-says ws (leave a k u) h = h
 
-pub known : (c : Call) (ws : List ℕ) → Known (perform c ws .says)
-known c ws =
-    by-admission (λ (r : Reply). Known (r .says)) c ws (λ r h. reply-says ws (refuse r) tt)
+pub numbered : (c : Call) (ws : List ℕ) → Numbered (perform c ws .says)
+numbered c ws =
+    by-admission (λ (r : Response). Numbered (r .says)) c ws (λ r h. reply-says ws (refuse r) tt)
     (λ h. reply-says ws (turnOf c ws (table ws)) (turn-says c ws (table ws)))
