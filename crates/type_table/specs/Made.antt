@@ -7,7 +7,7 @@ use mathlib.Core.Bool.{Bool, cond}
 use lib.ListN.{length}
 use Rattle.model.specs.Lists.{isZero}
 use Rattle.model.specs.Format.{spreadMost, attrset, neg}
-use Rattle.model.specs.Table.{Entry, Table, tableOf, withEntries, entryAt}
+use Rattle.model.specs.Table.{Entry, Table, tableOf, withEntries}
 use Rattle.model.specs.Image.{table}
 use Rattle.model.specs.Making.{Making, spreadAt, changed, withNegation, makeNeg, undone}
 use Rattle.model.specs.Calls.{Response, responseOf, madeTurn, fieldList, newAttrset}
