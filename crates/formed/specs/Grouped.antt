@@ -11,7 +11,7 @@ use Rattle.model.specs.Table.{Entry, Field, Pair, _⊑_}
 use Rattle.model.specs.Image.{word, offset, capacity, count}
 use Rattle.model.specs.Formed.{headerWhole, formatKnown, stateKnown, pendingWhenAsked, namesFew, functorKnown, namesAscend, entryRight}
 use Rattle.image.specs.Shown.{storeOf, entriesOf, fieldsIn}
-use Rattle.formed.specs.declared.EntryWords.{EntryWords}
+use Rattle.formed.specs.declared.entries.EntryWords.{EntryWords}
 
 unfoldable pub headerRight : List ℕ → Bool
 headerRight ws = allOf (headerWhole ws ∷ formatKnown ws ∷ stateKnown ws ∷ pendingWhenAsked ws ∷ namesFew ws ∷ functorKnown ws ∷ [])
