@@ -2,8 +2,8 @@
 use mathlib.Core.Path.{sym, ap}
 use Rattle.step.specs.Put.{countIn}
 use borrow.Author.Needs.{needs}
-use Rattle.step.proofs.count_of.Statement.{statement}
-use Rattle.step.proofs.count_of.Tie as tie
+use Rattle.step.proofs.consequences.count_of.Statement.{statement}
+use Rattle.step.proofs.consequences.count_of.Tie as tie
 
 enum-told : tie.Need-enum-told
 enum-told c = search needs

@@ -2,8 +2,8 @@
 use native.Mathlib.Omega.{arith}
 use Rattle.step.proofs.Chains.{pair-lower, pair-upper}
 use borrow.Author.Needs.{needs}
-use Rattle.step.proofs.put_bound_pair.Statement.{statement}
-use Rattle.step.proofs.put_bound_pair.Tie as tie
+use Rattle.step.proofs.consequences.put_bound_pair.Statement.{statement}
+use Rattle.step.proofs.consequences.put_bound_pair.Tie as tie
 
 put-consequence-requires : tie.Need-put-consequence-requires
 put-consequence-requires c κs = c .before .before .before .pre

@@ -3,8 +3,8 @@ use native.Mathlib.Omega.{arith}
 use mathlib.Core.Path.{sym, _∙_}
 use Rattle.image.proofs.Laying.{shown-laid}
 use Rattle.step.proofs.BoundPairs.{Paired, paired-start, paired-shown, paired-inside, paired-room, paired-more, paired-skip, paired-end, same-length as as-long}
-use Rattle.step.proofs.put_bound_pairs.Statement.{statement}
-use Rattle.step.proofs.put_bound_pairs.Tie as tie
+use Rattle.step.proofs.consequences.put_bound_pairs.Statement.{statement}
+use Rattle.step.proofs.consequences.put_bound_pairs.Tie as tie
 
 abbrev Inv-loop : tie.InvT-loop
 Inv-loop image₀ v side b i₀ image i =

@@ -1,10 +1,10 @@
 -- Each way out is one case of the two dynamic types.
 use Rattle.step.proofs.FieldPairs.{pending-none, pending-one, pending-room, dynamic-both, dynamic-first, dynamic-second}
 use borrow.Author.Needs.{needs}
-use Rattle.step.proofs.put_dynamic_pair.Statement.{statement}
-use Rattle.step.proofs.put_dynamic_pair.Tie as tie
-use Rattle.step.proofs.put_dynamic_pair.Reads as reads
-use Rattle.step.proofs.put_dynamic_pair.Lts as lts
+use Rattle.step.proofs.consequences.put_dynamic_pair.Statement.{statement}
+use Rattle.step.proofs.consequences.put_dynamic_pair.Tie as tie
+use Rattle.step.proofs.consequences.put_dynamic_pair.Reads as reads
+use Rattle.step.proofs.consequences.put_dynamic_pair.Lts as lts
 use Rattle.writes.proofs.put_consequence.Reads as put-consequence-reads
 
 enum-known-a : tie.Need-enum-known-a

@@ -4,10 +4,10 @@ use mathlib.Core.Path.{sym, _∙_}
 use Rattle.image.proofs.Laying.{shown-laid}
 use Rattle.step.proofs.FieldPairs.{pending-none, pending-one, pending-room, field-under, field-asked, field-free}
 use borrow.Author.Needs.{needs}
-use Rattle.step.proofs.put_field_pair.Statement.{statement}
-use Rattle.step.proofs.put_field_pair.Tie as tie
-use Rattle.step.proofs.put_field_pair.Reads as reads
-use Rattle.step.proofs.put_field_pair.Lts as lts
+use Rattle.step.proofs.consequences.put_field_pair.Statement.{statement}
+use Rattle.step.proofs.consequences.put_field_pair.Tie as tie
+use Rattle.step.proofs.consequences.put_field_pair.Reads as reads
+use Rattle.step.proofs.consequences.put_field_pair.Lts as lts
 use Rattle.constrain.proofs.asks.Reads as asks-reads
 use Rattle.image.proofs.field_word.Reads as field-word-reads
 use Rattle.writes.proofs.put_consequence.Reads as put-consequence-reads

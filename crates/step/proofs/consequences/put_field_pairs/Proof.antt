@@ -4,12 +4,12 @@ use denote.Ref.{now}
 use Rattle.image.proofs.Laying.{shown-laid}
 use Rattle.disjoint.proofs.Fields.{fields-few}
 use Rattle.step.proofs.FieldPairs.{pending-size, dynamic-room, ready, Putting, putting-start, putting-shown, putting-inside, putting-there, putting-room, putting-more, putting-end}
-use Rattle.step.proofs.put_field_pairs.Statement.{statement}
-use Rattle.step.proofs.put_field_pairs.Tie as tie
-use Rattle.step.proofs.put_field_pairs.Reads as reads
-use Rattle.step.proofs.put_field_pairs.Lts as lts
-use Rattle.step.proofs.put_dynamic_pair.Reads as put-dynamic-pair-reads
-use Rattle.step.proofs.put_field_pair.Reads as put-field-pair-reads
+use Rattle.step.proofs.consequences.put_field_pairs.Statement.{statement}
+use Rattle.step.proofs.consequences.put_field_pairs.Tie as tie
+use Rattle.step.proofs.consequences.put_field_pairs.Reads as reads
+use Rattle.step.proofs.consequences.put_field_pairs.Lts as lts
+use Rattle.step.proofs.consequences.put_dynamic_pair.Reads as put-dynamic-pair-reads
+use Rattle.step.proofs.consequences.put_field_pair.Reads as put-field-pair-reads
 
 abbrev Inv-loop : tie.InvT-loop
 Inv-loop image₀ a b j₀ image j = Putting image₀ a b j image

@@ -1,12 +1,12 @@
 -- Consequences on pending, case by case: proofs/Following.antt.
 use Rattle.step.proofs.Following.{one-fits, two-fit, second-fits, fields-fit, put-none, put-one, put-two, put-fields}
 use borrow.Author.Needs.{needs}
-use Rattle.step.proofs.put_pairs.Statement.{statement}
-use Rattle.step.proofs.put_pairs.Tie as tie
-use Rattle.step.proofs.put_pairs.Reads as reads
-use Rattle.step.proofs.put_pairs.Lts as lts
+use Rattle.step.proofs.consequences.put_pairs.Statement.{statement}
+use Rattle.step.proofs.consequences.put_pairs.Tie as tie
+use Rattle.step.proofs.consequences.put_pairs.Reads as reads
+use Rattle.step.proofs.consequences.put_pairs.Lts as lts
 use Rattle.writes.proofs.put_consequence.Reads as put-consequence-reads
-use Rattle.step.proofs.put_field_pairs.Reads as put-field-pairs-reads
+use Rattle.step.proofs.consequences.put_field_pairs.Reads as put-field-pairs-reads
 
 enum-told : tie.Need-enum-told
 enum-told c = search needs
