@@ -58,24 +58,24 @@ fn below(part: &[u32], limit: u32) -> bool
 
 // Region k's offset, capacity and count.
 fn offset(image: &[u32], k: usize) -> usize
-    requires { ⌜ (headerWords ≤ length (now image)) × (k ≤ 6) ⌝ }
+    requires { ⌜ (headerWords ≤ length (now image)) × (k ≤ length (regions newest)) ⌝ }
     ensures { λ r. ⌜ (r ≡ offset (now (image .entry)) k) × (r < wordEnd) ⌝ }
 {
-    wide(image[6 + 3 * k])
+    wide(image[image::format::OFFSET_AT + image::format::REGION_STEP * k])
 }
 
 fn capacity(image: &[u32], k: usize) -> usize
-    requires { ⌜ (headerWords ≤ length (now image)) × (k ≤ 6) ⌝ }
+    requires { ⌜ (headerWords ≤ length (now image)) × (k ≤ length (regions newest)) ⌝ }
     ensures { λ r. ⌜ (r ≡ capacity (now (image .entry)) k) × (r < wordEnd) ⌝ }
 {
-    wide(image[7 + 3 * k])
+    wide(image[image::format::CAPACITY_AT + image::format::REGION_STEP * k])
 }
 
 fn count(image: &[u32], k: usize) -> usize
-    requires { ⌜ (headerWords ≤ length (now image)) × (k ≤ 6) ⌝ }
+    requires { ⌜ (headerWords ≤ length (now image)) × (k ≤ length (regions newest)) ⌝ }
     ensures { λ r. ⌜ (r ≡ count (now (image .entry)) k) × (r < wordEnd) ⌝ }
 {
-    wide(image[8 + 3 * k])
+    wide(image[image::format::COUNT_AT + image::format::REGION_STEP * k])
 }
 
 // Whether pending pairs are there exactly when asked.
@@ -114,17 +114,17 @@ fn regions_right(image: &[u32]) -> bool
     let mut at: usize = image::format::HEADER_WORDS;
     let mut k: usize = 0;
     while k < image::format::REGIONS {
-        let capacity = image[10 + 3 * k];
-        if wide(image[9 + 3 * k]) != at {
+        let room = capacity(image, k + 1);
+        if offset(image, k + 1) != at {
             return false;
         }
-        if image::format::MOSTS[k] < capacity {
+        if wide(image::format::MOSTS[k]) < room {
             return false;
         }
-        if capacity < image[11 + 3 * k] {
+        if room < count(image, k + 1) {
             return false;
         }
-        at = at + image::format::WIDTHS[k] * wide(capacity);
+        at = at + image::format::WIDTHS[k] * room;
         k += 1;
     }
     at == image.len()
