@@ -11,54 +11,49 @@ use lib.Seq.{drop-cons}
 use lib.Dec.{eqb, leb}
 use borrow.Author.Tests.{eq-eqb, ne-eqb, le-leb, lt-leb}
 use Rattle.model.specs.Lists.{allOf}
-use Rattle.model.specs.Format.{Region, noRegion, rows, regions, newest}
-use Rattle.model.specs.Parts.{word, regionRight, regionsRight, restZero, restsZero}
+use Rattle.model.specs.Format.{Region, noRegion, rows, regions, newest, entryWidth, wordEnd}
+use Rattle.model.specs.Parts.{offset, capacity, count, regionRight, regionsRight, restZero, restsZero}
 use Rattle.image.specs.Laid.{Laid}
 use Rattle.image.proofs.Listed.{widths, mosts, regionsMany, rowsMany, width-at, most-at, narrow}
 use Rattle.formed.specs.Grouped.{RegionInside}
 
 -- the tests from region j + 1 on
 abbrev pub testsFrom : List ℕ → ℕ → ℕ → Bool
-testsFrom w j at = regionsRight (drop j (regions newest)) (1 + j) at w
+testsFrom w j at = regionsRight (drop j (regions newest)) (j + 1) at w
 
 module _ (w : List ℕ) (j at : ℕ) (h : j < regionsMany) where
   rest : Bool
-  rest = testsFrom w (j + 1) (at + getD widths j 0 * word w (10 + 3 * j))
+  rest = testsFrom w (j + 1) (at + getD widths j 0 * capacity w (j + 1))
 
-  tests : testsFrom w j at ≡ allOf (eqb (word w (9 + 3 * j)) at ∷ leb (word w (10 + 3 * j)) (getD mosts j 0) ∷ leb (word w (11 + 3 * j)) (word w (10 + 3 * j)) ∷ []) && rest
+  tests : testsFrom w j at ≡ allOf (eqb (offset w (j + 1)) at ∷ leb (capacity w (j + 1)) (getD mosts j 0) ∷ leb (count w (j + 1)) (capacity w (j + 1)) ∷ []) && rest
   unfolding regionsRight regionRight rest
-  tests =
-      let e₁ : 6 + 3 * (1 + j) ≡ 9 + 3 * j = omega arith in
-      let e₂ : 7 + 3 * (1 + j) ≡ 10 + 3 * j = omega arith in
-      let e₃ : 8 + 3 * (1 + j) ≡ 11 + 3 * j = omega arith in
-      let e₄ : 1 + suc j ≡ suc (1 + j) = omega arith in
-      rw (add-one j, drop-cons (regions newest) j noRegion h, width-at j, most-at j, e₁, e₂, e₃, e₄)
+  tests = rw (add-one j, add-one (suc j), drop-cons (regions newest) j noRegion h, width-at j, most-at j)
 
-  pub off-place : (word w (9 + 3 * j) ≡ at → ⊥) → testsFrom w j at ≡ false
+  pub off-place : (offset w (j + 1) ≡ at → ⊥) → testsFrom w j at ≡ false
   unfolding allOf
-  off-place n = tests ∙ rw (ne-eqb (word w (9 + 3 * j)) at n)
+  off-place n = tests ∙ rw (ne-eqb (offset w (j + 1)) at n)
 
-  module _ (o : word w (9 + 3 * j) ≡ at) where
-    pub over-most : getD mosts j 0 < word w (10 + 3 * j) → testsFrom w j at ≡ false
+  module _ (o : offset w (j + 1) ≡ at) where
+    pub over-most : getD mosts j 0 < capacity w (j + 1) → testsFrom w j at ≡ false
     unfolding allOf
-    over-most l = tests ∙ rw (eq-eqb (word w (9 + 3 * j)) at o, lt-leb (word w (10 + 3 * j)) (getD mosts j 0) l)
+    over-most l = tests ∙ rw (eq-eqb (offset w (j + 1)) at o, lt-leb (capacity w (j + 1)) (getD mosts j 0) l)
 
-    pub over-room : word w (10 + 3 * j) ≤ getD mosts j 0 → word w (10 + 3 * j) < word w (11 + 3 * j) → testsFrom w j at ≡ false
+    pub over-room : capacity w (j + 1) ≤ getD mosts j 0 → capacity w (j + 1) < count w (j + 1) → testsFrom w j at ≡ false
     unfolding allOf
-    over-room m l = tests ∙ rw (eq-eqb (word w (9 + 3 * j)) at o, le-leb (word w (10 + 3 * j)) (getD mosts j 0) m, lt-leb (word w (11 + 3 * j)) (word w (10 + 3 * j)) l)
+    over-room m l = tests ∙ rw (eq-eqb (offset w (j + 1)) at o, le-leb (capacity w (j + 1)) (getD mosts j 0) m, lt-leb (count w (j + 1)) (capacity w (j + 1)) l)
 
-    pub goes-on : word w (10 + 3 * j) ≤ getD mosts j 0 → word w (11 + 3 * j) ≤ word w (10 + 3 * j)
-        → testsFrom w j at ≡ testsFrom w (j + 1) (at + getD widths j 0 * word w (10 + 3 * j))
+    pub goes-on : capacity w (j + 1) ≤ getD mosts j 0 → count w (j + 1) ≤ capacity w (j + 1)
+        → testsFrom w j at ≡ testsFrom w (j + 1) (at + getD widths j 0 * capacity w (j + 1))
     unfolding allOf rest
-    goes-on m l = tests ∙ rw (eq-eqb (word w (9 + 3 * j)) at o, le-leb (word w (10 + 3 * j)) (getD mosts j 0) m, le-leb (word w (11 + 3 * j)) (word w (10 + 3 * j)) l)
+    goes-on m l = tests ∙ rw (eq-eqb (offset w (j + 1)) at o, le-leb (capacity w (j + 1)) (getD mosts j 0) m, le-leb (count w (j + 1)) (capacity w (j + 1)) l)
 
 pub at-end : (w : List ℕ) (at : ℕ) → testsFrom w regionsMany at ≡ eqb at (length w)
 unfolding regionsRight
 at-end w at = refl
 
 -- a region's words stay far below what a usize takes
-pub little : (j c : ℕ) → j < regionsMany → c < 4294967296 → getD widths j 0 * c ≤ 30064771072
-little j c h k = let m : getD widths j 0 * c ≤ 7 * c = mul-le-mul-right c (narrow j h) in omega arith
+pub little : (j c : ℕ) → j < regionsMany → c < wordEnd → getD widths j 0 * c ≤ entryWidth * wordEnd
+little j c h k = let m : getD widths j 0 * c ≤ entryWidth * c = mul-le-mul-right c (narrow j h) in omega arith
 
 -- each region inside the words
 pub laid-inside : {w : List ℕ} → Laid w → (j : ℕ) → j < rowsMany → RegionInside w (j + 1) (getD widths j 0)

@@ -6,12 +6,12 @@ use mathlib.Core.Bool.{Bool, _&&_}
 use lib.ListN.{length}
 use lib.Dec.{ltb}
 use Rattle.model.specs.Lists.{allOf, all}
-use Rattle.model.specs.Format.{headerWords}
+use Rattle.model.specs.Format.{regions, newest, headerWords, entryWidth}
 use Rattle.model.specs.Table.{Entry, Field, Pair, _⊑_}
 use Rattle.model.specs.Image.{word, offset, capacity, count}
 use Rattle.model.specs.Formed.{headerWhole, formatKnown, stateKnown, pendingWhenAsked, namesFew, functorKnown, namesAscend, entryRight}
 use Rattle.image.specs.Shown.{storeOf, entriesOf, fieldsIn}
-use Rattle.formed.specs.declared.EntryWords.{EntryWords}
+use Rattle.formed.specs.declared.entries.EntryWords.{EntryWords}
 
 unfoldable pub headerRight : List ℕ → Bool
 headerRight ws = allOf (headerWhole ws ∷ formatKnown ws ∷ stateKnown ws ∷ pendingWhenAsked ws ∷ namesFew ws ∷ functorKnown ws ∷ [])
@@ -19,8 +19,8 @@ headerRight ws = allOf (headerWhole ws ∷ formatKnown ws ∷ stateKnown ws ∷ 
 -- region k lies inside the words
 pub record RegionInside (ws : List ℕ) (k width : ℕ) : Type 0 where
   pub head : headerWords ≤ length ws
-  pub number : k ≤ 6
-  pub narrow : width ≤ 7
+  pub number : k ≤ length (regions newest)
+  pub narrow : width ≤ entryWidth
   pub held : count ws k ≤ capacity ws k
   pub inside : offset ws k + width * capacity ws k ≤ length ws
 

@@ -5,7 +5,7 @@ use mathlib.Core.List.{List, map}
 use lib.ListN.{length, getD, List·getD-map}
 use lib.Dec.{leb}
 use Rattle.model.specs.Lists.{all}
-use Rattle.model.specs.Format.{noRegion, rows, regions, newest}
+use Rattle.model.specs.Format.{noRegion, rows, regions, newest, entryWidth}
 use Rattle.laws.proofs.Tests.{all-at, le-of}
 
 abbrev pub widths : List ℕ
@@ -28,6 +28,6 @@ pub most-at : (k : ℕ) → getD mosts k 0 ≡ getD (regions newest) k noRegion 
 most-at k = List·getD-map (λ r. r .most) (regions newest) k noRegion
 
 -- no record is wider than an entry
-pub narrow : (k : ℕ) → k < regionsMany → getD widths k 0 ≤ 7
+pub narrow : (k : ℕ) → k < regionsMany → getD widths k 0 ≤ entryWidth
 unfolding all
-narrow k h = le-of (getD widths k 0) 7 (all-at (λ n. leb n 7) 0 widths tt k h)
+narrow k h = le-of (getD widths k 0) entryWidth (all-at (λ n. leb n entryWidth) 0 widths tt k h)

@@ -10,10 +10,10 @@ use lib.ListN.{length, getD, take, drop}
 use lib.Seq.{drop-drop, getD-drop}
 use lib.Dec.{eqb}
 use borrow.Author.Tests.{eq-eqb, ne-eqb, eqb-true, eqb-false}
-use Rattle.model.specs.Format.{wordEnd}
+use Rattle.model.specs.Format.{wordEnd, visitedRegion}
 use Rattle.model.specs.Lists.{any, readMany}
 use Rattle.model.specs.Table.{Pair, _⊑_}
-use Rattle.model.specs.Image.{word, visitedOf, recordsOf, table}
+use Rattle.model.specs.Image.{offset, count, visitedOf, recordsOf, table}
 use Rattle.model.specs.Rules.{samePair, isVisited}
 use Rattle.laws.proofs.Regions.{read-length}
 use Rattle.image.specs.Shown.{storeOf}
@@ -80,7 +80,7 @@ module _ (l : List ℕ) (i a b : ℕ) (hx : getD l (2 * i) 0 < wordEnd) (ha : a 
   is-other j k p q e = sym same-by ∙ ne-eqb _ _ (λ h. e (p ∙ h ∙ sym q))
 
 -- the search through the lent part from a word on, which is the visited pairs' offset
-pub visited-by : (w : List ℕ) (p : Pair) (at n : ℕ) → at ≡ word w 18 → n ≡ word w 20
+pub visited-by : (w : List ℕ) (p : Pair) (at n : ℕ) → at ≡ offset w visitedRegion → n ≡ count w visitedRegion
     → any (samePair p) (readMany visitedOf (drop 2) n (take (length w - at) (drop at w))) ≡ isVisited (storeOf w) p
 unfolding isVisited table recordsOf
 visited-by w p at n e f = rw (tail-part w at, e, f)

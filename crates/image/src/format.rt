@@ -19,6 +19,16 @@ pub const NAMES_AT: usize = 7;
 
 pub const FUNCTOR_AT: usize = 8;
 
+// Region k's offset, capacity and count stand k steps behind these; k counts from 1.
+pub const OFFSET_AT: usize = 6;
+
+pub const CAPACITY_AT: usize = 7;
+
+pub const COUNT_AT: usize = 8;
+
+pub const REGION_STEP: usize = 3;
+
+// The same by name.
 pub const ENTRIES_OFFSET_AT: usize = 9;
 
 pub const ENTRIES_CAPACITY_AT: usize = 10;

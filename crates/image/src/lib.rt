@@ -44,14 +44,14 @@ pub fn count(image: &[u32], region: usize) -> u32
     requires { ⌜ countAt region < length (now image) ⌝ }
     ensures { λ r. ⌜ r ≡ count (now (image .entry)) region ⌝ }
 {
-    image[8 + 3 * region]
+    image[format::COUNT_AT + format::REGION_STEP * region]
 }
 
 pub fn capacity(image: &[u32], region: usize) -> u32
     requires { ⌜ capacityAt region < length (now image) ⌝ }
     ensures { λ r. ⌜ r ≡ capacity (now (image .entry)) region ⌝ }
 {
-    image[7 + 3 * region]
+    image[format::CAPACITY_AT + format::REGION_STEP * region]
 }
 
 // The same by name.
@@ -205,7 +205,7 @@ fn record_word(image: &[u32], region: usize, width: usize, i: u32, j: usize) -> 
     requires { ⌜ (i < count (now image) region) × (j < width) ⌝ }
     ensures { λ r. ⌜ r ≡ word (now (image .entry)) (offset (now (image .entry)) region + width * i + j) ⌝ }
 {
-    image[wide(image[6 + 3 * region]) + width * wide(i) + j]
+    image[wide(image[format::OFFSET_AT + format::REGION_STEP * region]) + width * wide(i) + j]
 }
 
 // The same by name.

@@ -7,7 +7,7 @@ use mathlib.Core.List.{List, [], _∷_, _++_, append-assoc}
 use lib.ListN.{length, getD, take, drop, length-append, length-drop, take-append-drop}
 use lib.Seq.{take-at, drop-at, drop-drop, drop-cons, drop-length, getD-drop}
 use lib.Dec.{T}
-use Rattle.model.specs.Format.{Region, noRegion, headerOf}
+use Rattle.model.specs.Format.{Region, noRegion, offsetAt, capacityAt, countAt, headerFor, headerOf}
 use Rattle.model.specs.Parts.{word, offset, capacity, count, Part, noPart, past, triples, bodies, image, partsFrom, regionRight, regionsRight, restZero, restsZero, InRegion, InRegions, done, _then_}
 use Rattle.laws.proofs.Tests.{both, first, second, nth, none, _and_, all-passed, le-of, eq-of, of-le, of-eq}
 
@@ -75,16 +75,16 @@ module _ (ws : List ℕ) where
       let n = r .width * capacity ws k in
       rw (here r rs k at ws h .starts, bodies-are rs (suc k) (at + n) (on r rs k at ws h), ← drop-drop n at ws) (take-append-drop n (drop at ws))
 
-  triples-are : (rs : List Region) (k at : ℕ) → T (regionsRight rs k at ws) → 6 + 3 * k + 3 * length rs ≤ length ws
-      → triples at (partsFrom rs k ws) ≡ take (3 * length rs) (drop (6 + 3 * k) ws)
+  triples-are : (rs : List Region) (k at : ℕ) → T (regionsRight rs k at ws) → offsetAt k + 3 * length rs ≤ length ws
+      → triples at (partsFrom rs k ws) ≡ take (3 * length rs) (drop (offsetAt k) ws)
   unfolding triples partsFrom
   triples-are [] k at h fits = refl
   triples-are (r ∷ rs) k at h fits =
-      let a : ℕ = 6 + 3 * k in
+      let a : ℕ = offsetAt k in
       let n : 3 * suc (length rs) ≡ suc (suc (suc (3 * length rs))) = omega arith in
-      let e₁ : 7 + 3 * k ≡ suc a = omega arith in
-      let e₂ : 8 + 3 * k ≡ suc (suc a) = omega arith in
-      let e₃ : 6 + 3 * suc k ≡ suc (suc (suc a)) = omega arith in
+      let e₁ : capacityAt k ≡ suc a = omega arith in
+      let e₂ : countAt k ≡ suc (suc a) = omega arith in
+      let e₃ : offsetAt (suc k) ≡ suc (suc (suc a)) = omega arith in
       let d : drop a ws ≡ word ws a ∷ word ws (suc a) ∷ word ws (suc (suc a)) ∷ drop (suc (suc (suc a))) ws =
       drop-cons ws a 0 (omega arith) ∙ ap (λ (l : List ℕ). word ws a ∷ l) (drop-cons ws (suc a) 0 (omega arith) ∙ ap (λ (l : List ℕ). word ws (suc a) ∷ l) (drop-cons ws (suc (suc a)) 0 (omega arith))) in
       let ih : triples (at + r .width * capacity ws k) (partsFrom rs (suc k) ws) ≡ take (3 * length rs) (drop (suc (suc (suc a))) ws) =
@@ -96,7 +96,7 @@ module _ (ws : List ℕ) where
   unfolding image
   image-parts rs fits h =
       let n = 3 * length rs in
-      rw (parts-length rs 1 ws, triples-are rs 1 (9 + n) h fits, bodies-are rs 1 (9 + n) h, ← drop-drop n 9 ws, take-append-drop n (drop 9 ws)) (take-append-drop 9 ws)
+      rw (parts-length rs 1 ws, triples-are rs 1 (headerOf rs) h fits, bodies-are rs 1 (headerOf rs) h, ← drop-drop n 9 ws, take-append-drop n (drop 9 ws)) (take-append-drop 9 ws)
 
 -- Parts that lie in words from region k on, the first at a word: what the other way round goes by.
 pub data Lies (ws : List ℕ) : ℕ → ℕ → List Part → Type 0 where
@@ -125,20 +125,20 @@ module _ {ws : List ℕ} where
       (all-passed _ (of-eq (offset ws k) at o and of-le (capacity ws k) (r .most) (rw c (x .small)) and of-le (count ws k) (capacity ws k) (rw (c, n) (x .held)) and none)) ih
 
   -- parts written lie there
-  lie : {rs : List Region} {ps : List Part} → InRegions rs ps → (k at : ℕ) (r : List ℕ) → drop (6 + 3 * k) ws ≡ triples at ps ++ r → drop at ws ≡ bodies ps → at ≤ length ws → Lies ws k at ps
+  lie : {rs : List Region} {ps : List Part} → InRegions rs ps → (k at : ℕ) (r : List ℕ) → drop (offsetAt k) ws ≡ triples at ps ++ r → drop at ws ≡ bodies ps → at ≤ length ws → Lies ws k at ps
   unfolding triples bodies
   lie done k at r t b h = let e : at ≡ length ws = omega (arith, length-drop at ws, ap length b) in end e
   lie (_then_ {p = p} {ps = ps} x xs) k at r t b h =
-      let a : ℕ = 6 + 3 * k in
+      let a : ℕ = offsetAt k in
       let e₀ : a + 0 ≡ a = omega arith in
-      let e₁ : a + 1 ≡ 7 + 3 * k = omega arith in
-      let e₂ : a + 2 ≡ 8 + 3 * k = omega arith in
-      let e₃ : a + 3 ≡ 6 + 3 * suc k = omega arith in
+      let e₁ : a + 1 ≡ capacityAt k = omega arith in
+      let e₂ : a + 2 ≡ countAt k = omega arith in
+      let e₃ : a + 3 ≡ offsetAt (suc k) = omega arith in
       let n : ℕ = p .width * p .capacity in
       let o : offset ws k ≡ at = ap (λ (i : ℕ). word ws i) (sym e₀) ∙ sym (getD-drop a ws 0 0) ∙ ap (λ (l : List ℕ). word l 0) t in
       let c : capacity ws k ≡ p .capacity = ap (λ (i : ℕ). word ws i) (sym e₁) ∙ sym (getD-drop a ws 1 0) ∙ ap (λ (l : List ℕ). word l 1) t in
       let m : count ws k ≡ p .count = ap (λ (i : ℕ). word ws i) (sym e₂) ∙ sym (getD-drop a ws 2 0) ∙ ap (λ (l : List ℕ). word l 2) t in
-      let t′ : drop (6 + 3 * suc k) ws ≡ triples (past at p) ps ++ r = rw (← e₃, ← drop-drop 3 a ws, t) in
+      let t′ : drop (offsetAt (suc k)) ws ≡ triples (past at p) ps ++ r = rw (← e₃, ← drop-drop 3 a ws, t) in
       let b′ : drop (at + n) ws ≡ bodies ps = rw (← drop-drop n at ws, b) (drop-at (p .words) (bodies ps) n (x .full)) in
       let w : take n (drop at ws) ≡ p .words = rw b (take-at (p .words) (bodies ps) n (x .full)) in
       let h′ : at + n ≤ length ws = omega (arith, length-drop at ws, ap length b, length-append (p .words) (bodies ps), x .full) in
@@ -163,7 +163,7 @@ module _ (front : List ℕ) (n : length front ≡ 9) {rs : List Region} {ps : Li
   pub image-lies : Lies (image front ps) 1 (headerOf rs) ps
   unfolding image
   image-lies =
-      let at : ℕ = 9 + 3 * length ps in
+      let at : ℕ = headerFor (length ps) in
       let w = image front ps in
       let ts = triples at ps in
       let m : length (front ++ ts) ≡ at = length-append front ts ∙ rw (n, triples-length at ps) in

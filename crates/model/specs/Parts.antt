@@ -7,7 +7,7 @@ use lib.ListN.{length, getD, set, take, drop}
 use lib.Seq.{sets}
 use lib.Dec.{eqb, leb}
 use Rattle.model.specs.Lists.{isZero, allOf, all}
-use Rattle.model.specs.Format.{Region, offsetAt, capacityAt, countAt}
+use Rattle.model.specs.Format.{Region, offsetAt, capacityAt, countAt, headerFor}
 
 -- word i; past the end, 0
 abbrev pub word : List ℕ → ℕ → ℕ
@@ -48,7 +48,7 @@ bodies (p ∷ ps) = p .words ++ bodies ps
 
 -- "a header, then six regions without gaps"
 unfoldable pub image : List ℕ → List Part → List ℕ
-image front ps = front ++ (triples (9 + 3 * length ps) ps ++ bodies ps)
+image front ps = front ++ (triples (headerFor (length ps)) ps ++ bodies ps)
 
 -- region k of some words, and all from region k on
 abbrev pub partAt : Region → ℕ → List ℕ → Part

@@ -35,11 +35,6 @@ pub fn print(s: &[u8]) {
     write(STDOUT_FILENO, s);
 }
 
-// A number in decimal.
-pub fn print_number(n: u32) {
-    write_number(STDOUT_FILENO, n);
-}
-
 // Where a byte stands first from a place on; past the last where it does not.
 pub fn place_of(text: &[u8], from: usize, byte: u8) -> usize
     requires { ⌜ from ≤ length (now text) ⌝ }

@@ -3,3 +3,4 @@ pub mod answers;
 pub mod fields;
 pub mod labels;
 pub mod name_lists;
+mod places;

@@ -9,7 +9,7 @@ use mathlib.Core.Bool.{Bool, true, _&&_}
 use lib.ListN.{length, getD, drop}
 use lib.Seq.{sets, drop-cons}
 use lib.Dec.{T, leb}
-use Rattle.model.specs.Format.{Region, noRegion, regions, newest, headerWords, wordEnd}
+use Rattle.model.specs.Format.{Region, noRegion, regions, newest, headerWords, wordEnd, offsetAt}
 use Rattle.model.specs.Image.{sizeOf}
 use Rattle.model.specs.Calls.{allSmall}
 use Rattle.laws.proofs.Tests.{first, second, le-of}
@@ -67,12 +67,12 @@ module _ (cs : List ℕ) (n : length cs ≡ regionsMany) (k : ℕ) (h : k < regi
   pub size-on : (at c : ℕ) → c ≡ getD cs k 0 → T (allSmall (regions newest) cs) → at + sizeFrom k cs ≡ sizeAll cs → SizeOn cs k at c
   size-on at c e t h = record { next = rw e (omega (arith, h, size-here-on)); within = rw e (omega (arith, h, size-here-on, counts cs t)) }
 
-  pub head-on : (at : ℕ) (w : List ℕ) → headFrom k at cs w ≡ headFrom (k + 1) (at + getD widths k 0 * getD cs k 0) cs (sets w (9 + 3 * k) (at ∷ getD cs k 0 ∷ 0 ∷ []))
+  pub head-on : (at : ℕ) (w : List ℕ) → headFrom k at cs w ≡ headFrom (k + 1) (at + getD widths k 0 * getD cs k 0) cs (sets w (offsetAt (k + 1)) (at ∷ getD cs k 0 ∷ 0 ∷ []))
   unfolding headedFrom
   head-on at w =
-      let e₁ : 6 + 3 * (1 + k) ≡ 9 + 3 * k = omega arith in
+      let e₁ : k + 1 ≡ 1 + k = omega arith in
       let e₂ : 1 + (k + 1) ≡ suc (1 + k) = omega arith in
-      rw (width-at k, region-here, size-here, ← e₁, e₂)
+      rw (width-at k, region-here, size-here, e₂, e₁)
 
 pub small-end : (cs : List ℕ) → smallFrom regionsMany cs ≡ true
 unfolding allSmall

@@ -4,12 +4,12 @@ use model::Refusal;
 use model::Reply;
 ghost use mathlib.Core.Path.{_≡_};
 ghost use mathlib.Core.List.{[], _∷_};
-ghost use Prim.Native.Nat.{_+_, _*_, _≤_};
+ghost use Prim.Native.Nat.{_+_, _≤_, _<_};
 ghost use lib.ListN.{length, set, replicate};
 ghost use lib.Seq.{sets};
 ghost use lib.Dec.{T, eqb, leb};
 ghost use Rattle.model.specs.Lists.{allOf};
-ghost use Rattle.model.specs.Format.{regions, newest, headerWords, formatAt, formatWord, namesAt, functorAt, namesMost};
+ghost use Rattle.model.specs.Format.{regions, newest, headerWords, formatAt, formatWord, namesAt, functorAt, offsetAt, countAt, namesMost};
 ghost use Rattle.model.specs.Image.{sizeOf};
 ghost use Rattle.model.specs.Calls.{allSmall, start as startOf};
 ghost use Rattle.model.specs.Told.{toldReply};
@@ -65,14 +65,14 @@ fn put_front(image: &mut [u32], names: u32, functor: u32)
     image[image::format::FUNCTOR_AT] = functor;
 }
 
-// Writes region k's words of the header, k counted from 0: its offset, its capacity, and the count 0.
+// Writes region k's words of the header: its offset, its capacity, and the count 0.
 fn put_region(image: &mut [u32], k: usize, offset: u32, capacity: u32)
-    requires { ⌜ 3 * k + 12 ≤ length (now image) ⌝ }
-    ensures { λ _. ⌜ now (image .exit) ≡ sets (now (image .entry)) (9 + 3 * k) (offset ∷ capacity ∷ 0 ∷ []) ⌝ }
+    requires { ⌜ countAt k < length (now image) ⌝ }
+    ensures { λ _. ⌜ now (image .exit) ≡ sets (now (image .entry)) (offsetAt k) (offset ∷ capacity ∷ 0 ∷ []) ⌝ }
 {
     let row = [offset, capacity, 0];
-    let at = image::format::ENTRIES_OFFSET_AT;
-    writes::put_row(&mut image[at..], 3 * k, &row);
+    let at = image::format::OFFSET_AT;
+    writes::put_row(&mut image[at..], image::format::REGION_STEP * k, &row);
 }
 
 // Writes the header of an empty image over zeroes.
@@ -86,7 +86,7 @@ fn put_header(image: &mut [u32], names: u32, functor: u32, sizes: &[u32])
     let mut at: usize = image::format::HEADER_WORDS;
     let mut k: usize = 0;
     while k < image::format::REGIONS {
-        put_region(image, k, at as u32, sizes[k]);
+        put_region(image, k + 1, at as u32, sizes[k]);
         at = at + image::format::WIDTHS[k] * image::wide(sizes[k]);
         k += 1;
     }

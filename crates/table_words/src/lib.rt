@@ -4,6 +4,7 @@ use image::Capacities;
 ghost use mathlib.Core.Path.{_≡_};
 ghost use Prim.Native.Nat.{_≤_};
 ghost use lib.ListN.{length};
+ghost use Rattle.model.specs.Format.{regions, newest};
 
 // A word, or 0 past the last.
 pub fn word(words: &[u32], at: usize) -> u32 {
@@ -18,47 +19,51 @@ pub fn wide(n: u32) -> usize
     n as usize
 }
 
+// A word of record n of a region.
+fn record_word(words: &[u32], region: usize, n: u32, which: usize) -> u32
+    requires { ⌜ (1 ≤ region) × (region ≤ length (regions newest)) × (which ≤ 7) ⌝ }
+{
+    let offset_at = image::format::OFFSET_AT + image::format::REGION_STEP * region;
+    let start = wide(word(words, offset_at));
+    word(
+        words,
+        start + image::format::WIDTHS[region - 1] * wide(n) + which,
+    )
+}
+
 // A word of an entry.
 pub fn entry_word(words: &[u32], n: u32, which: usize) -> u32
     requires { ⌜ which ≤ 7 ⌝ }
 {
-    let start = wide(word(words, image::format::ENTRIES_OFFSET_AT));
-    word(words, start + image::format::ENTRY_WIDTH * wide(n) + which)
+    record_word(words, image::format::IN_ENTRIES, n, which)
 }
 
 // A word of a field.
 pub fn field_word(words: &[u32], n: u32, which: usize) -> u32
     requires { ⌜ which ≤ 7 ⌝ }
 {
-    let start = wide(word(words, image::format::FIELDS_OFFSET_AT));
-    word(words, start + image::format::FIELD_WIDTH * wide(n) + which)
+    record_word(words, image::format::IN_FIELDS, n, which)
 }
 
 // A word of a bound.
 pub fn bound_word(words: &[u32], n: u32, which: usize) -> u32
     requires { ⌜ which ≤ 7 ⌝ }
 {
-    let start = wide(word(words, image::format::BOUNDS_OFFSET_AT));
-    word(words, start + image::format::BOUND_WIDTH * wide(n) + which)
+    record_word(words, image::format::IN_BOUNDS, n, which)
 }
 
 // A word of a visited pair.
 pub fn visited_word(words: &[u32], n: u32, which: usize) -> u32
     requires { ⌜ which ≤ 7 ⌝ }
 {
-    let start = wide(word(words, image::format::VISITED_OFFSET_AT));
-    word(
-        words,
-        start + image::format::VISITED_WIDTH * wide(n) + which,
-    )
+    record_word(words, image::format::IN_VISITED, n, which)
 }
 
 // A word of a pair asked equal.
 pub fn equals_word(words: &[u32], n: u32, which: usize) -> u32
     requires { ⌜ which ≤ 7 ⌝ }
 {
-    let start = wide(word(words, image::format::EQUALS_OFFSET_AT));
-    word(words, start + image::format::EQUALS_WIDTH * wide(n) + which)
+    record_word(words, image::format::IN_EQUALS, n, which)
 }
 
 // How many records each region has.

@@ -6,10 +6,10 @@ use mathlib.Core.Path.{_≡_, refl, sym, ap, _∙_, subst}
 use mathlib.Core.List.{List, [], _∷_}
 use lib.ListN.{length, set, take}
 use lib.Seq.{length-take-le}
-use Rattle.model.specs.Format.{stateAt, idle, asked}
+use Rattle.model.specs.Format.{stateAt, breakKindAt, breakSubAt, breakSupAt, breakNameAt, levelAt, idle, asked, pendingRegion}
 use Rattle.model.specs.Table.{Pair, Break, Store, Table, tableOf, stateOf, withBroken, withLevel}
-use Rattle.model.specs.Parts.{image}
-use Rattle.model.specs.Image.{frontAs, partsOf, wordsAs, table, word, imageLength}
+use Rattle.model.specs.Parts.{image, count}
+use Rattle.model.specs.Image.{frontAs, partsOf, wordsAs, table, imageLength}
 use Rattle.image.specs.Shown.{Shows, Shown, ShowsAs, ShownAs, storeOf, pendingIn, pendingTo, brokenTo, levelTo}
 use Rattle.image.proofs.Laying.{seen, shown-size}
 use Rattle.writes.proofs.Places.{facts}
@@ -46,7 +46,7 @@ pub stated : {state : ℕ} {v w : List ℕ} {t : Table} → ShowsAs state v t �
 stated {w = w} a s = subst (λ (u : Table). Shows w u) (seen a) s
 
 module _ (w : List ℕ) (s : Shown w) where
-  pub shows-broken : (b : Break) → Shows (set (set (set (set w 2 (b .kind)) 3 (b .sub)) 4 (b .sup)) 5 (b .name)) (brokenTo w b)
+  pub shows-broken : (b : Break) → Shows (set (set (set (set w breakKindAt (b .kind)) breakSubAt (b .sub)) breakSupAt (b .sup)) breakNameAt (b .name)) (brokenTo w b)
   unfolding wordsAs image frontAs partsOf withBroken
   shows-broken b =
       let h = s .within .held in
@@ -56,10 +56,10 @@ module _ (w : List ℕ) (s : Shown w) where
           pending = s .within .pending;
           small = s .within .small;
         };
-        is = ap (λ (v : List ℕ). set (set (set (set v 2 (b .kind)) 3 (b .sub)) 4 (b .sup)) 5 (b .name)) (s .is);
+        is = ap (λ (v : List ℕ). set (set (set (set v breakKindAt (b .kind)) breakSubAt (b .sub)) breakSupAt (b .sup)) breakNameAt (b .name)) (s .is);
       }
 
-  pub shows-level : (l : ℕ) → Shows (set w 6 l) (levelTo w l)
+  pub shows-level : (l : ℕ) → Shows (set w levelAt l) (levelTo w l)
   unfolding wordsAs image frontAs partsOf withLevel
   shows-level l =
       let h = s .within .held in
@@ -69,7 +69,7 @@ module _ (w : List ℕ) (s : Shown w) where
           pending = s .within .pending;
           small = s .within .small;
         };
-        is = ap (λ (v : List ℕ). set v 6 l) (s .is);
+        is = ap (λ (v : List ℕ). set v levelAt l) (s .is);
       }
 
 -- words of one length: those that show tables with the same capacities
@@ -98,14 +98,14 @@ module _ {w₀ w : List ℕ} (e : Emptying w₀ w) where
     pub emptying-more : Emptying w₀ v
     emptying-more = record { shows = subst (λ (ps : List Pair). ShowsAs asked v (pendingTo w₀ ps)) (sym left) (subst (λ (x : Store). ShowsAs asked v (tableOf x (take (length (pendingIn w) - 1) (pendingIn w)))) store s) }
 
-    pub emptying-less : 0 < word w 23 → word v 23 < word w 23
+    pub emptying-less : 0 < count w pendingRegion → count v pendingRegion < count w pendingRegion
     emptying-less h =
         let f = facts s in
         let g = facts (e .shows) in
         let n = ap length left ∙ length-take-le (length (pendingIn w) - 1) (pendingIn w) (omega arith) in
         omega arith
 
-  pub emptying-end : word w 23 ≤ 0 → ShowsAs asked w (pendingTo w₀ [])
+  pub emptying-end : count w pendingRegion ≤ 0 → ShowsAs asked w (pendingTo w₀ [])
   emptying-end h =
       let f = facts (e .shows) in
       subst (λ (ps : List Pair). ShowsAs asked w (pendingTo w₀ ps)) (none (pendingIn w) (omega arith)) (e .shows)

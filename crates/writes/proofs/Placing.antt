@@ -7,7 +7,7 @@ use mathlib.Core.List.{List, [], _∷_, _++_, append-assoc}
 use lib.ListN.{length, getD, set, take, drop, length-append, length-set}
 use lib.Seq.{sets, length-sets, set-append-left, split-at, set-split, set-set, length-take-le, getD-append-add, getD-set-same}
 use lib.Dec.{T}
-use Rattle.model.specs.Format.{Region, noRegion, headerOf, countAt}
+use Rattle.model.specs.Format.{Region, noRegion, headerFor, headerOf, offsetAt, capacityAt, countAt}
 use Rattle.model.specs.Parts.{word, offset, capacity, count, Part, noPart, past, triples, bodies, image, regionsRight, InRegion, InRegions, done, _then_, stored, pushed, partOf, change}
 use Rattle.laws.proofs.Parts.{triples-length, fit-length, fit-at, image-right, Flat, flat-at, size}
 use Rattle.image.specs.Laid.{At}
@@ -59,7 +59,7 @@ fit-take (suc n) (x then f) = x then fit-take n f
 -- an image opened at one of its parts
 module _ (front : List ℕ) (nine : length front ≡ 9) (xs ys : List Part) where
   at : ℕ
-  at = 9 + 3 * (length xs + suc (length ys))
+  at = headerFor (length xs + suc (length ys))
 
   start : ℕ
   start = at + size xs
@@ -68,7 +68,7 @@ module _ (front : List ℕ) (nine : length front ≡ 9) (xs ys : List Part) wher
   unfolding image triples bodies at start
   opened p = rw (length-append xs (p ∷ ys), triples-append at xs (p ∷ ys), bodies-append xs (p ∷ ys)) (simp append-assoc)
 
-  head : length (front ++ triples at xs) ≡ 9 + 3 * length xs
+  head : length (front ++ triples at xs) ≡ headerFor (length xs)
   head = length-append front (triples at xs) ∙ rw (nine, triples-length at xs)
 
   lead : Part → List ℕ
@@ -88,10 +88,10 @@ module _ (front : List ℕ) (nine : length front ≡ 9) (xs ys : List Part) wher
 
   -- the three words of the part in the header
   module _ (p : Part) where
-    word-of : (i : ℕ) → word (image front (xs ++ (p ∷ ys))) (9 + 3 * length xs + i) ≡ word (start ∷ p .capacity ∷ p .count ∷ ((triples (past start p) ys ++ bodies xs) ++ (p .words ++ bodies ys))) i
+    word-of : (i : ℕ) → word (image front (xs ++ (p ∷ ys))) (headerFor (length xs) + i) ≡ word (start ∷ p .capacity ∷ p .count ∷ ((triples (past start p) ys ++ bodies xs) ++ (p .words ++ bodies ys))) i
     word-of i = rw (opened p, ← head) (getD-append-add (front ++ triples at xs) (start ∷ p .capacity ∷ p .count ∷ ((triples (past start p) ys ++ bodies xs) ++ (p .words ++ bodies ys))) i 0)
 
-    put-count : (n : ℕ) → set (image front (xs ++ (p ∷ ys))) (9 + 3 * length xs + 2) n ≡ image front (xs ++ (record { width = p .width; capacity = p .capacity; count = n; words = p .words } ∷ ys))
+    put-count : (n : ℕ) → set (image front (xs ++ (p ∷ ys))) (headerFor (length xs) + 2) n ≡ image front (xs ++ (record { width = p .width; capacity = p .capacity; count = n; words = p .words } ∷ ys))
     put-count n =
         let q : Part = record { width = p .width; capacity = p .capacity; count = n; words = p .words } in
         rw (opened p, opened q, ← head) (set-right (front ++ triples at xs) (start ∷ p .capacity ∷ p .count ∷ ((triples (past start p) ys ++ bodies xs) ++ (p .words ++ bodies ys))) 2 n)
@@ -126,15 +126,15 @@ module _ {rs : List Region} {ps : List Part} (front : List ℕ) (nine : length f
 
   offset-is : offset (image front ps) k ≡ begins
   unfolding begins
-  offset-is = let e : 6 + 3 * k ≡ 9 + 3 * length (take (k - 1) ps) + 0 = let c = cut in omega arith in
+  offset-is = let e : offsetAt k ≡ headerFor (length (take (k - 1) ps)) + 0 = let c = cut in omega arith in
       rw (parted, e) (word-of front nine (take (k - 1) ps) (drop (suc (k - 1)) ps) (partOf ps k) 0)
 
   pub capacity-is : capacity (image front ps) k ≡ partOf ps k .capacity
-  capacity-is = let e : 7 + 3 * k ≡ 9 + 3 * length (take (k - 1) ps) + 1 = let c = cut in omega arith in
+  capacity-is = let e : capacityAt k ≡ headerFor (length (take (k - 1) ps)) + 1 = let c = cut in omega arith in
       rw (parted, e) (word-of front nine (take (k - 1) ps) (drop (suc (k - 1)) ps) (partOf ps k) 1)
 
   pub count-is : count (image front ps) k ≡ partOf ps k .count
-  count-is = let e : 8 + 3 * k ≡ 9 + 3 * length (take (k - 1) ps) + 2 = let c = cut in omega arith in
+  count-is = let e : countAt k ≡ headerFor (length (take (k - 1) ps)) + 2 = let c = cut in omega arith in
       rw (parted, e) (word-of front nine (take (k - 1) ps) (drop (suc (k - 1)) ps) (partOf ps k) 2)
 
   pub shaped : InRegion (getD rs (k - 1) noRegion) (partOf ps k)
@@ -153,7 +153,7 @@ module _ {rs : List Region} {ps : List Part} (front : List ℕ) (nine : length f
   pub image-count : (n : ℕ) → set (image front ps) (countAt k) n ≡ image front (change (λ p. record { width = p .width; capacity = p .capacity; count = n; words = p .words }) k ps)
   image-count n =
       let p = partOf ps k in
-      let e : 8 + 3 * k ≡ 9 + 3 * length (take (k - 1) ps) + 2 = let c = cut in omega arith in
+      let e : countAt k ≡ headerFor (length (take (k - 1) ps)) + 2 = let c = cut in omega arith in
       rw (parted, e) (put-count front nine (take (k - 1) ps) (drop (suc (k - 1)) ps) p n ∙ changed (record { width = p .width; capacity = p .capacity; count = n; words = p .words }))
 
 -- a part changed in its place

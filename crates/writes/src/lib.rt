@@ -35,10 +35,10 @@ fn append(image: &mut [u32], region: usize, width: usize, row: &[u32])
     requires { ⌜ length (now row) ≡ width ⌝ }
     ensures { λ _. ⌜ now (image .exit) ≡ appended (now (image .entry)) region width (now (row .entry)) ⌝ }
 {
-    let at = image::wide(image[6 + 3 * region]);
-    let n = image[8 + 3 * region];
+    let at = image::wide(image[image::format::OFFSET_AT + image::format::REGION_STEP * region]);
+    let n = image[image::format::COUNT_AT + image::format::REGION_STEP * region];
     put_row(&mut image[at..], width * image::wide(n), row);
-    image[8 + 3 * region] = n + 1;
+    image[image::format::COUNT_AT + image::format::REGION_STEP * region] = n + 1;
 }
 
 // Takes the last record off a region; its words are then those of `zeros`.
@@ -48,10 +48,10 @@ fn remove(image: &mut [u32], region: usize, width: usize, zeros: &[u32])
     requires { ⌜ now zeros ≡ replicate width 0 ⌝ }
     ensures { λ _. ⌜ now (image .exit) ≡ removed (now (image .entry)) region width ⌝ }
 {
-    let at = image::wide(image[6 + 3 * region]);
-    let n = image[8 + 3 * region] - 1;
+    let at = image::wide(image[image::format::OFFSET_AT + image::format::REGION_STEP * region]);
+    let n = image[image::format::COUNT_AT + image::format::REGION_STEP * region] - 1;
     put_row(&mut image[at..], width * image::wide(n), zeros);
-    image[8 + 3 * region] = n;
+    image[image::format::COUNT_AT + image::format::REGION_STEP * region] = n;
 }
 
 // Puts an entry behind the last.

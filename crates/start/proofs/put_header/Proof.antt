@@ -29,6 +29,9 @@ put-front-requires c κs = search needs
 loop-holds : tie.Need-loop-holds Inv-loop μ-loop
 loop-holds c = (omega arith, refl, refl, refl)
 
+add-put-region : tie.Need-add-put-region Inv-loop μ-loop
+add-put-region c = search needs
+
 cast-put-region : tie.Need-cast-put-region Inv-loop μ-loop
 cast-put-region c =
     let s = c .before .before .before .before .before .before .before .before .before in
@@ -106,6 +109,7 @@ put-header-spec =
     μ-loop
     put-front-requires
     loop-holds
+    add-put-region
     cast-put-region
     mul-put-region
     shared-slice-read-put-region

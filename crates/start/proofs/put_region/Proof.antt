@@ -37,7 +37,7 @@ same-length c = search needs
 returns : tie.Need-returns
 returns c =
     let a = c .before .before .before .before .before .before .args in
-    back-sets (now (a .image)) _ 9 (3 * a .k) (a .offset ∷ a .capacity ∷ 0 ∷ []) (c .before .before .put-row .ensures)
+    back-sets (now (a .image)) _ 6 (3 * a .k) (a .offset ∷ a .capacity ∷ 0 ∷ []) (c .before .before .put-row .ensures)
 
 pub put-region-spec : {M : Type 1} → statement M
 put-region-spec =

@@ -10,8 +10,8 @@ use Rattle.step.proofs.follow.Reads as reads
 use Rattle.step.proofs.follow.Lts as lts
 use Rattle.writes.proofs.end_if_done.Reads as end-if-done-reads
 use Rattle.step.proofs.advance.Reads as advance-reads
-use Rattle.step.proofs.count_of.Reads as count-of-reads
-use Rattle.step.proofs.put_pairs.Reads as put-pairs-reads
+use Rattle.step.proofs.consequences.count_of.Reads as count-of-reads
+use Rattle.step.proofs.consequences.put_pairs.Reads as put-pairs-reads
 use Rattle.step.proofs.room_for.Reads as room-for-reads
 
 count-of-requires : tie.Need-count-of-requires

@@ -1,10 +1,11 @@
 -- `append`: a record put into a region, and counted.
 use native.Mathlib.Omega.{arith}
-use Prim.Native.Nat.{ℕ, _+_, _*_}
+use Prim.Native.Nat.{ℕ, _+_}
 use mathlib.Core.Path.{ap}
 use mathlib.Core.List.{List}
 use denote.Ref.{now}
 use lib.ListN.{set, length-take, length-drop}
+use Rattle.model.specs.Format.{capacityAt, countAt}
 use Rattle.model.specs.Image.{offset, count}
 use Rattle.image.proofs.Lent.{back-record}
 use Rattle.image.proofs.Reach.{reach}
@@ -71,7 +72,7 @@ put-row-requires c κs =
     simp (length-take, length-drop) (omega arith)
 
 add-image : tie.Need-add-image
-add-image c = omega (arith, c .before .before .before .before .before .before .before .before .before .slice-known .given (7 + 3 * c .before .before .before .before .before .before .before .before .before .before .args .region))
+add-image c = omega (arith, c .before .before .before .before .before .before .before .before .before .slice-known .given (capacityAt (c .before .before .before .before .before .before .before .before .before .before .args .region)))
 
 mul-image : tie.Need-mul-image
 mul-image c = search needs
@@ -92,7 +93,7 @@ returns : tie.Need-returns
 returns c =
     let a = c .before .before .before .before .before .before .before .before .before .before .args in
     let w = now (a .image) in
-    ap (λ (l : List ℕ). set l (8 + 3 * a .region) (count w (a .region) + 1))
+    ap (λ (l : List ℕ). set l (countAt (a .region)) (count w (a .region) + 1))
     (back-record (a .width) w _ _ _ (offset w (a .region)) (count w (a .region)) (now (a .row)) (c .before .before .before .before .before .before .wide .ensures) (c .before .before .before .wide2 .ensures) (c .before .before .put-row .ensures))
 
 pub append-spec : {M : Type 1} → statement M

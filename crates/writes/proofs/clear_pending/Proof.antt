@@ -2,7 +2,8 @@
 use Rattle.writes.proofs.Pending.{Emptying, emptying-start, emptying-more, emptying-less, emptying-end, emptying-size}
 use Rattle.writes.proofs.Places.{facts}
 use Rattle.image.proofs.Laying.{shown-as}
-use lib.ListN.{getD}
+use Rattle.model.specs.Format.{pendingRegion}
+use Rattle.model.specs.Image.{count}
 use native.Mathlib.Omega.{arith}
 use Rattle.writes.proofs.clear_pending.Statement.{statement}
 use Rattle.writes.proofs.clear_pending.Tie as tie
@@ -14,7 +15,7 @@ abbrev Inv-loop : tie.InvT-loop
 Inv-loop image₀ image = Emptying image₀ image
 
 abbrev μ-loop : tie.MeasureT-loop
-μ-loop image₀ image = getD image 23 0
+μ-loop image₀ image = count image pendingRegion
 
 loop-holds : tie.Need-loop-holds Inv-loop μ-loop
 loop-holds c = emptying-start (c .before .pre)

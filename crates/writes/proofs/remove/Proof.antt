@@ -6,6 +6,7 @@ use mathlib.Core.List.{List}
 use denote.Ref.{now}
 use lib.Seq.{sets}
 use lib.ListN.{length, set, length-replicate, length-take, length-drop}
+use Rattle.model.specs.Format.{countAt}
 use Rattle.model.specs.Image.{offset, count}
 use Rattle.image.proofs.Lent.{back-record}
 use Rattle.image.proofs.Reach.{reach}
@@ -95,7 +96,7 @@ returns c =
     let s = c .before .before .before .before .before .before .before .before .before .before in
     let a = s .args in
     let w = now (a .image) in
-    ap (λ (l : List ℕ). set l (8 + 3 * a .region) (count w (a .region) - 1))
+    ap (λ (l : List ℕ). set l (countAt (a .region)) (count w (a .region) - 1))
     (back-record (a .width) w _ _ _ (offset w (a .region)) (count w (a .region) - 1) (now (a .zeros)) (c .before .before .before .before .before .before .wide .ensures) (c .before .before .before .wide2 .ensures) (c .before .before .put-row .ensures)
     ∙ ap (λ (l : List ℕ). sets w (offset w (a .region) + a .width * (count w (a .region) - 1)) l) (s .pre .1 .1))
 
