@@ -6,7 +6,7 @@ use native.Mathlib.Numerals.{add-one}
 use mathlib.Core.Path.{_≡_, refl, sym, ap, _∙_}
 use mathlib.Core.List.{List, [], _∷_}
 use mathlib.Core.Bool.{Bool, true, false, _&&_}
-use lib.ListN.{length, getD, drop}
+use lib.ListN.{length, getD, drop, List·getD-append}
 use lib.Seq.{drop-cons}
 use lib.Dec.{eqb, leb}
 use borrow.Author.Tests.{eq-eqb, ne-eqb, le-leb, lt-leb}
@@ -65,6 +65,10 @@ laid-inside l (suc (suc (suc (suc zero)))) h = record { head = l .head; number =
 laid-inside l (suc (suc (suc (suc (suc zero))))) h = record { head = l .head; number = omega arith; narrow = omega arith; held = l .equals .held; inside = omega arith }
 laid-inside l (suc (suc (suc (suc (suc (suc j)))))) h = absurd (omega arith)
 
+-- the regions in a row come first
+row-width : (j : ℕ) → j < rowsMany → getD (rows newest) j noRegion .width ≡ getD widths j 0
+row-width j h = sym (width-at j ∙ ap (λ (r : Region). r .width) (List·getD-append (rows newest) (newest .more) noRegion j h))
+
 -- zeros past the counts from region j + 1 on
 abbrev pub zerosFrom : List ℕ → ℕ → Bool
 zerosFrom w j = restsZero (drop j (rows newest)) (1 + j) w
@@ -79,7 +83,7 @@ zeros-on w j h =
     let there : restsZero (drop (suc j) (rows newest)) (suc (1 + j)) w ≡ zerosFrom w (j + 1) = rw (e₂, add-one j) in
     here
     ∙ ap (λ (n : ℕ). restZero w n (getD (rows newest) j noRegion .width) && restsZero (drop (suc j) (rows newest)) (suc (1 + j)) w) (sym e₁)
-    ∙ ap (λ (n : ℕ). restZero w (j + 1) n && restsZero (drop (suc j) (rows newest)) (suc (1 + j)) w) (sym (width-at j))
+    ∙ ap (λ (n : ℕ). restZero w (j + 1) n && restsZero (drop (suc j) (rows newest)) (suc (1 + j)) w) (row-width j h)
     ∙ ap (λ (b : Bool). restZero w (j + 1) (getD widths j 0) && b) there
 
 pub zeros-end : (w : List ℕ) → zerosFrom w rowsMany ≡ true

@@ -10,6 +10,7 @@ use Rattle.model.specs.Format.{stateAt, breakKindAt, breakSubAt, breakSupAt, br
 use Rattle.model.specs.Table.{Pair, Break, Store, Table, tableOf, stateOf, withBroken, withLevel}
 use Rattle.model.specs.Parts.{image, count}
 use Rattle.model.specs.Image.{frontAs, partsOf, wordsAs, table, imageLength}
+use Rattle.laws.proofs.Round.{fit-within, parts-fit}
 use Rattle.image.specs.Shown.{Shows, Shown, ShowsAs, ShownAs, storeOf, pendingIn, pendingTo, brokenTo, levelTo}
 use Rattle.image.proofs.Laying.{seen, shown-size}
 use Rattle.writes.proofs.Places.{facts}
@@ -49,26 +50,16 @@ module _ (w : List ℕ) (s : Shown w) where
   pub shows-broken : (b : Break) → Shows (set (set (set (set w breakKindAt (b .kind)) breakSubAt (b .sub)) breakSupAt (b .sup)) breakNameAt (b .name)) (brokenTo w b)
   unfolding wordsAs image frontAs partsOf withBroken
   shows-broken b =
-      let h = s .within .held in
       record {
-        within = record {
-          held = record { entries = h .entries; fields = h .fields; bounds = h .bounds; visited = h .visited; equals = h .equals };
-          pending = s .within .pending;
-          small = s .within .small;
-        };
+        within = fit-within _ (parts-fit (table w) (s .within));
         is = ap (λ (v : List ℕ). set (set (set (set v breakKindAt (b .kind)) breakSubAt (b .sub)) breakSupAt (b .sup)) breakNameAt (b .name)) (s .is);
       }
 
   pub shows-level : (l : ℕ) → Shows (set w levelAt l) (levelTo w l)
   unfolding wordsAs image frontAs partsOf withLevel
   shows-level l =
-      let h = s .within .held in
       record {
-        within = record {
-          held = record { entries = h .entries; fields = h .fields; bounds = h .bounds; visited = h .visited; equals = h .equals };
-          pending = s .within .pending;
-          small = s .within .small;
-        };
+        within = fit-within _ (parts-fit (table w) (s .within));
         is = ap (λ (v : List ℕ). set v levelAt l) (s .is);
       }
 

@@ -4,17 +4,17 @@ use Prim.Native.Nat.{ℕ, suc, _+_, _-_, _*_, _≤_, _<_}
 use native.Mathlib.Omega.{arith}
 use mathlib.Core.Path.{_≡_, refl, sym, ap, _∙_, subst}
 use mathlib.Core.List.{List, [], _∷_, _++_}
-use lib.ListN.{length, getD, set, take, replicate, length-append, length-replicate, length-set}
+use lib.ListN.{length, getD, set, take, replicate, length-replicate}
 use lib.Seq.{length-take-le, take-length, take-suc}
 use Rattle.model.specs.Format.{regions, newest, entryWidth, fieldWidth, boundWidth, visitedWidth, pendingWidth, equalsWidth}
 use Rattle.model.specs.Format.{entriesRegion, fieldsRegion, boundsRegion, visitedRegion, pendingRegion, equalsRegion}
 use Rattle.model.specs.Table.{Table, tableOf, withEntries, withFields, withBounds, withVisited, withEquals}
-use Rattle.model.specs.Parts.{offset, capacity, count, Part, image, stored, pushed, partOf, change}
+use Rattle.model.specs.Parts.{offset, capacity, count, Part, image, InRegions, stored, pushed, partOf, change}
 use Rattle.model.specs.Image.{entryWords, fieldWords, boundWords, visitedWords, pendingWords, equalWords, packed, frontAs, partsOf, wordsAs}
 use Rattle.laws.proofs.Regions.{Coded}
-use Rattle.laws.proofs.Round.{front-length, parts-fit}
+use Rattle.laws.proofs.Round.{front-length, fit-within, parts-fit}
 use Rattle.image.specs.Laid.{At}
-use Rattle.image.specs.Shown.{Within, ShowsAs}
+use Rattle.image.specs.Shown.{ShowsAs}
 use Rattle.image.specs.Stores.{appended, removed}
 use Rattle.image.proofs.Reach.{before-end}
 use Rattle.writes.proofs.Placing.{ShowsParts, count-is, capacity-is, shows-at, shows-put, shows-stored, shows-pushed}
@@ -27,7 +27,6 @@ pub record Slot {A : Type 0} (code : A → List ℕ) (width k : ℕ) (room : Tab
   pub holds : (t : Table) → partOf (partsOf t) k ≡ packed code width (room t) (get t)
   pub parts : (l : List A) (t : Table) → partsOf (put l t) ≡ set (partsOf t) (k - 1) (packed code width (room t) l)
   pub front : (state : ℕ) (l : List A) (t : Table) → frontAs state (put l t) ≡ frontAs state t
-  pub within : (l : List A) (t : Table) → length l ≤ room t → Within t → Within (put l t)
 
 -- words that show a table show its parts
 pub shows-parts : {state : ℕ} {w : List ℕ} {t : Table} → ShowsAs state w t → ShowsParts (regions newest) w (frontAs state t) (partsOf t)
@@ -53,14 +52,14 @@ module _ {A : Type 0} {code : A → List ℕ} {of : List ℕ → A} {width k : �
   slot-room = rw (s .is) (capacity-is (frontAs state t) (front-length state t) (parts-fit t (s .within)) k (slot .low) (slot .high) ∙ ap (λ (p : Part). p .capacity) (slot .holds t))
 
   -- a change of the part that is one of the list: the words show the table with that list
-  slot-changed : {v : List ℕ} (l : List A) (g : Part → Part) → g (packed code width (room t) (get t)) ≡ packed code width (room t) l → length l ≤ room t
+  slot-changed : {v : List ℕ} (l : List A) (g : Part → Part) → g (packed code width (room t) (get t)) ≡ packed code width (room t) l
       → ShowsParts (regions newest) v (frontAs state t) (change g k (partsOf t)) → ShowsAs state v (put l t)
   unfolding wordsAs
-  slot-changed l g e m n =
+  slot-changed l g e n =
       let all : change g k (partsOf t) ≡ partsOf (put l t) =
       ap (λ (q : Part). set (partsOf t) (k - 1) q) (ap g (slot .holds t) ∙ e) ∙ sym (slot .parts l t) in
       record {
-        within = slot .within l t m (s .within);
+        within = fit-within (put l t) (subst (λ (x : List Part). InRegions (regions newest) x) all (n .fit));
         is = n .is ∙ ap (λ (x : List ℕ). image x (change g k (partsOf t))) (sym (slot .front state l t)) ∙ ap (λ (x : List Part). image (frontAs state (put l t)) x) all;
       }
 
@@ -73,7 +72,7 @@ module _ {A : Type 0} {code : A → List ℕ} {of : List ℕ → A} {width k : �
       let r : ShowsParts (regions newest) (appended w k width (code a)) (frontAs state t) (change (pushed (code a)) k (partsOf t)) =
       subst (λ (x : ℕ). ShowsParts (regions newest) (appended w k x (code a)) (frontAs state t) (change (pushed (code a)) k (partsOf t))) slot-wide
       (shows-pushed (shows-parts s) k (slot .low) (slot .high) (code a) (c .wide a ∙ sym slot-wide) (omega arith)) in
-      slot-changed (get t ++ (a ∷ [])) (pushed (code a)) (packed-pushed c (room t) (get t) a h) (rw (length-append (get t) (a ∷ [])) (omega arith)) r
+      slot-changed (get t ++ (a ∷ [])) (pushed (code a)) (packed-pushed c (room t) (get t) a h) r
 
   -- the last taken off
   pub slot-popped : A → 0 < length (get t) → ShowsAs state (removed w k width) (put (take (length (get t) - 1) (get t)) t)
@@ -98,8 +97,7 @@ module _ {A : Type 0} {code : A → List ℕ} {of : List ℕ → A} {width k : �
       slot-changed m (stored (width * (count w k - 1)) (replicate width 0) (count w k - 1))
       (ap (λ (i : ℕ). stored (width * i) (replicate width 0) i (packed code width (room t) l)) less
       ∙ ap (λ (q : List A). stored (width * length m) (replicate width 0) (length m) (packed code width (room t) q)) all
-      ∙ packed-popped c (room t) m (getD l j d) (omega (arith, at .held)))
-      (omega (arith, at .held)) r
+      ∙ packed-popped c (room t) m (getD l j d) (omega (arith, at .held))) r
 
   -- word j of record i changed
   pub slot-put : (i j x : ℕ) (b d : A) → i < length (get t) → j < width → code b ≡ set (code (getD (get t) i d)) j x
@@ -115,7 +113,7 @@ module _ {A : Type 0} {code : A → List ℕ} {of : List ℕ → A} {width k : �
       let same : offset w k + (width * i + j) ≡ offset w k + width * i + j = omega arith in
       let r : ShowsParts (regions newest) (set w (offset w k + width * i + j) x) (frontAs state t) (change (λ p. stored (width * i + j) (x ∷ []) (p .count) p) k (partsOf t)) =
       rw same at (shows-put (shows-parts s) k (slot .low) (slot .high) (width * i + j) (x ∷ []) fits) in
-      slot-changed (set l i b) (λ p. stored (width * i + j) (x ∷ []) (p .count) p) (packed-put c (room t) l i j x b d lt jt e) (rw (length-set l i b) (omega (arith, at .held))) r
+      slot-changed (set l i b) (λ p. stored (width * i + j) (x ∷ []) (p .count) p) (packed-put c (room t) l i j x b d lt jt e) r
 
 -- the six
 pub entries-slot : Slot entryWords entryWidth entriesRegion (λ t. t .store .capacities .entries) (λ t. t .store .entries) (λ l t. tableOf (withEntries l (t .store)) (t .pending))
@@ -126,7 +124,6 @@ entries-slot = record {
   holds = λ t. refl;
   parts = λ l t. refl;
   front = λ state l t. refl;
-  within = λ l t m h. let d = h .held in record { held = record { entries = m; fields = d .fields; bounds = d .bounds; visited = d .visited; equals = d .equals }; pending = h .pending; small = h .small };
 }
 
 pub fields-slot : Slot fieldWords fieldWidth fieldsRegion (λ t. t .store .capacities .fields) (λ t. t .store .fields) (λ l t. tableOf (withFields l (t .store)) (t .pending))
@@ -137,7 +134,6 @@ fields-slot = record {
   holds = λ t. refl;
   parts = λ l t. refl;
   front = λ state l t. refl;
-  within = λ l t m h. let d = h .held in record { held = record { entries = d .entries; fields = m; bounds = d .bounds; visited = d .visited; equals = d .equals }; pending = h .pending; small = h .small };
 }
 
 pub bounds-slot : Slot boundWords boundWidth boundsRegion (λ t. t .store .capacities .bounds) (λ t. t .store .bounds) (λ l t. tableOf (withBounds l (t .store)) (t .pending))
@@ -148,7 +144,6 @@ bounds-slot = record {
   holds = λ t. refl;
   parts = λ l t. refl;
   front = λ state l t. refl;
-  within = λ l t m h. let d = h .held in record { held = record { entries = d .entries; fields = d .fields; bounds = m; visited = d .visited; equals = d .equals }; pending = h .pending; small = h .small };
 }
 
 pub visited-slot : Slot visitedWords visitedWidth visitedRegion (λ t. t .store .capacities .visited) (λ t. t .store .visited) (λ l t. tableOf (withVisited l (t .store)) (t .pending))
@@ -159,7 +154,6 @@ visited-slot = record {
   holds = λ t. refl;
   parts = λ l t. refl;
   front = λ state l t. refl;
-  within = λ l t m h. let d = h .held in record { held = record { entries = d .entries; fields = d .fields; bounds = d .bounds; visited = m; equals = d .equals }; pending = h .pending; small = h .small };
 }
 
 pub pending-slot : Slot pendingWords pendingWidth pendingRegion (λ t. t .store .capacities .pending) (λ t. t .pending) (λ l t. tableOf (t .store) l)
@@ -170,7 +164,6 @@ pending-slot = record {
   holds = λ t. refl;
   parts = λ l t. refl;
   front = λ state l t. refl;
-  within = λ l t m h. record { held = h .held; pending = m; small = h .small };
 }
 
 pub equals-slot : Slot equalWords equalsWidth equalsRegion (λ t. t .store .capacities .equals) (λ t. t .store .equals) (λ l t. tableOf (withEquals l (t .store)) (t .pending))
@@ -181,5 +174,4 @@ equals-slot = record {
   holds = λ t. refl;
   parts = λ l t. refl;
   front = λ state l t. refl;
-  within = λ l t m h. let d = h .held in record { held = record { entries = d .entries; fields = d .fields; bounds = d .bounds; visited = d .visited; equals = m }; pending = h .pending; small = h .small };
 }
