@@ -5,7 +5,7 @@ use mathlib.Core.List.{List, [], _∷_}
 use mathlib.Core.Bool.{Bool, not, cond}
 use lib.ListN.{length, getD}
 use Rattle.model.specs.Lists.{isZero}
-use Rattle.model.specs.Told.{Told, done, yes, more, failed, refused}
+use Rattle.model.specs.Told.{Told, done, yes, more, failed, refused, unopened}
 use Rattle.model.specs.Table as T
 use Rattle.model.specs.declared.Dynamic.{Dynamic}
 use Rattle.model.specs.declared.Dynamic.the-variants.{Absent, Present}
@@ -29,13 +29,14 @@ answer kind number steps vs = record {
   v7 = getD vs 7 0;
 }
 
--- kind: 0 done, 1 yes, 2 more, 3 failed, 4 refused; number: a failure's break kind, a refusal's number in 01, else 0
+-- kind: 0 done, 1 yes, 2 more, 3 failed, 4 refused, 5 refused at the opening; number: a failure's break kind, a refusal's number in 01, else 0
 abbrev pub answerOf : ℕ → Told → Answer
 answerOf steps (done vs) = answer 0 0 steps vs
 answerOf steps yes = answer 1 0 steps []
 answerOf steps more = answer 2 0 steps []
 answerOf steps (failed kind vs) = answer 3 kind steps vs
 answerOf steps (refused number vs) = answer 4 number steps vs
+answerOf steps (unopened number vs) = answer 5 number steps vs
 
 -- a flag: 0 is no, any other word yes
 abbrev pub flagOf : ℕ → Bool

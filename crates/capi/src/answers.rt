@@ -9,6 +9,7 @@ use model::EntryRead;
 use model::Failure;
 use model::Instalment;
 use model::Made;
+use model::Opening;
 use model::Record;
 use model::Refusal;
 use model::Reply;
@@ -20,7 +21,7 @@ use names::Placed;
 use operators::Resolved;
 ghost use mathlib.Core.Path.{_≡_};
 ghost use mathlib.Core.List.{[], _∷_};
-ghost use Rattle.model.specs.Told.{done, bit, toldRefusal, toldFailure, toldReply, toldMade, toldAnswer, toldAttrset, toldEntry, toldEntryRead, toldRecord, toldDisjointness};
+ghost use Rattle.model.specs.Told.{done, bit, toldRefusal, toldUnopened, toldFailure, toldReply, toldMade, toldAnswer, toldOpening, stepsOf, toldAttrset, toldEntry, toldEntryRead, toldRecord, toldDisjointness};
 ghost use Rattle.names.specs.Answers.{toldCounted, toldOrder, toldCompared, toldFound, toldPlaced};
 ghost use Rattle.operators.specs.Operators.{toldResolved};
 ghost use Rattle.capi.specs.Answers.{answer, answerOf};
@@ -35,6 +36,8 @@ const MORE: u32 = 2;
 const FAILED: u32 = 3;
 
 const REFUSED: u32 = 4;
+
+const UNOPENED: u32 = 5;
 
 // An answer of eight values.
 fn eight(v0: u32, v1: u32, v2: u32, v3: u32, v4: u32, v5: u32, v6: u32, v7: u32) -> Answer
@@ -193,6 +196,23 @@ pub fn of_refusal(steps: u32, refusal: Refusal) -> Answer
     }
 }
 
+// A refusal at the opening.
+fn of_unopened(refusal: Refusal) -> Answer
+    ensures { λ r. ⌜ r ≡ answerOf 0 (toldUnopened refusal) ⌝ }
+{
+    let number = refusals::number(refusal);
+    match refusals::carried(refusal) {
+        Carried::Nothing => none(UNOPENED, number, 0),
+        Carried::Region(region) => one(UNOPENED, number, 0, region),
+        Carried::Break {
+            kind,
+            sub,
+            sup,
+            name,
+        } => four(UNOPENED, number, 0, kind, sub, sup, name),
+    }
+}
+
 // A failure, after so many steps.
 fn of_failure(steps: u32, failure: Failure) -> Answer
     ensures { λ r. ⌜ r ≡ answerOf steps (toldFailure failure) ⌝ }
@@ -234,6 +254,16 @@ pub fn of_instalment(instalment: Instalment) -> Answer
         model::Answer::More => none(MORE, 0, steps),
         model::Answer::Failed(failure) => of_failure(steps, failure),
         model::Answer::Refused(refusal) => of_refusal(steps, refusal),
+    }
+}
+
+// What an opening answers.
+pub fn of_opening(opening: Opening) -> Answer
+    ensures { λ r. ⌜ r ≡ answerOf (stepsOf opening) (toldOpening opening) ⌝ }
+{
+    match opening {
+        Opening::Refused(refusal) => of_unopened(refusal),
+        Opening::Worked(instalment) => of_instalment(instalment),
     }
 }
 

@@ -7,7 +7,7 @@ use model::Dynamic;
 use model::Reply;
 ghost use mathlib.Core.Path.{_≡_};
 ghost use Rattle.model.specs.Formed.{wellFormed};
-ghost use Rattle.model.specs.Calls.{perform, makesVariable, makesPrimitive, makesList, makesLambda, makesAttrset, makesNamed, makesNeg, makesInter, makesUnion, marks, putsBound, enters, exits, setsLevel, under, bothWays, asks, works, abandons, readsEntry, readsRecord, readsDisjoint};
+ghost use Rattle.model.specs.Calls.{perform, makesVariable, makesPrimitive, makesList, makesLambda, makesAttrset, makesNamed, makesNeg, makesInter, makesUnion, marks, putsBound, enters, exits, setsLevel, under, bothWays, opens, works, abandons, readsEntry, readsRecord, readsDisjoint};
 ghost use Rattle.model.specs.Calls.{start as startOf};
 ghost use Rattle.names.specs.Names.{checkNames, checkName, countNames, compareAt, findName, placeName};
 ghost use Rattle.operators.specs.Operators.{toldResolved, resolved, fromLeft, atOnce};
@@ -246,31 +246,38 @@ pub extern "C" fn sheafwinch_set_level(image: &mut [u32], variable: u32, level: 
     answers::of_reply(answer)
 }
 
-// Asks whether sub fits under sup.
+// Opens the question whether sub fits under sup, and works it, at most so many steps.
 #[no_mangle]
-pub extern "C" fn sheafwinch_ask(image: &mut [u32], held: u32, sub: u32, sup: u32) -> Answer
-    ensures { λ r. ⌜ r ≡ answerOf 0 (perform (asks (under (flagOf held) sub sup)) (now (image .entry)) .says) ⌝ }
-    ensures { λ _. ⌜ now (image .exit) ≡ perform (asks (under (flagOf held) sub sup)) (now (image .entry)) .words ⌝ }
+pub extern "C" fn sheafwinch_open(
+    image: &mut [u32],
+    held: u32,
+    sub: u32,
+    sup: u32,
+    budget: u32,
+) -> Answer
+    ensures { λ r. ⌜ r ≡ answerOf (perform (opens (under (flagOf held) sub sup) budget) (now (image .entry)) .steps) (perform (opens (under (flagOf held) sub sup) budget) (now (image .entry)) .says) ⌝ }
+    ensures { λ _. ⌜ now (image .exit) ≡ perform (opens (under (flagOf held) sub sup) budget) (now (image .entry)) .words ⌝ }
 {
     let is_held = flag(held);
-    let answer = sheafwinch::ask(image, is_held, sub, sup);
-    answers::of_reply(answer)
+    let answer = sheafwinch::open(image, is_held, sub, sup, budget);
+    answers::of_opening(answer)
 }
 
-// Asks whether each of two entries fits under the other.
+// Opens the question whether each of two entries fits under the other.
 #[no_mangle]
-pub extern "C" fn sheafwinch_ask_equal(
+pub extern "C" fn sheafwinch_open_equal(
     image: &mut [u32],
     held: u32,
     left: u32,
     right: u32,
+    budget: u32,
 ) -> Answer
-    ensures { λ r. ⌜ r ≡ answerOf 0 (perform (asks (bothWays (flagOf held) left right)) (now (image .entry)) .says) ⌝ }
-    ensures { λ _. ⌜ now (image .exit) ≡ perform (asks (bothWays (flagOf held) left right)) (now (image .entry)) .words ⌝ }
+    ensures { λ r. ⌜ r ≡ answerOf (perform (opens (bothWays (flagOf held) left right) budget) (now (image .entry)) .steps) (perform (opens (bothWays (flagOf held) left right) budget) (now (image .entry)) .says) ⌝ }
+    ensures { λ _. ⌜ now (image .exit) ≡ perform (opens (bothWays (flagOf held) left right) budget) (now (image .entry)) .words ⌝ }
 {
     let is_held = flag(held);
-    let answer = sheafwinch::ask_equal(image, is_held, left, right);
-    answers::of_reply(answer)
+    let answer = sheafwinch::open_equal(image, is_held, left, right, budget);
+    answers::of_opening(answer)
 }
 
 // Works the question that is asked.

@@ -1,7 +1,8 @@
-// Questions in a well formed image: ask, work in instalments, abandon. Each is what the model's call does where the image
+// Questions in a well formed image: open, work in instalments, abandon. Each is what the model's call does where the image
 // is well formed; crate `sheafwinch` has the calls.
 use model::Answer;
 use model::Instalment;
+use model::Opening;
 use model::Question;
 use model::Refusal;
 use model::Reply;
@@ -15,8 +16,8 @@ ghost use Rattle.model.specs.Format.{idle};
 ghost use Rattle.model.specs.Table.{tableOf};
 ghost use Rattle.model.specs.Image.{table};
 ghost use Rattle.model.specs.Formed.{wellFormed};
-ghost use Rattle.model.specs.Calls.{responseOf, isRecorded, recorded, pairsOf, askTurn, workTurn, abandonTurn};
-ghost use Rattle.model.specs.Told.{toldReply, toldAnswer};
+ghost use Rattle.model.specs.Calls.{responseOf, isRecorded, recorded, pairsOf, askTurn, workTurn, openTurn, abandonTurn};
+ghost use Rattle.model.specs.Told.{toldReply, toldAnswer, toldOpening, stepsOf};
 ghost use Rattle.image.specs.Shown.{Shows, Shown, ShowsAs, ShownAs, storeOf, pendingIn, pendingTo};
 ghost use Rattle.questions.specs.Asking.{Roomy, Fitness, worked};
 
@@ -106,8 +107,8 @@ fn put_pairs(image: &mut [u32], q: Question)
     writes::put_asked(image, q.left, q.right); // worked first
 }
 
-// Asks a question.
-pub fn ask(image: &mut [u32], q: Question) -> Reply
+// Asks a question: the first half of an opening.
+fn ask(image: &mut [u32], q: Question) -> Reply
     requires { ⌜ T (wellFormed (now image)) ⌝ }
     ensures { λ r. ⌜ toldReply r ≡ responseOf (now (image .entry)) (askTurn q (table (now (image .entry)))) .says ⌝ }
     ensures { λ _. ⌜ now (image .exit) ≡ responseOf (now (image .entry)) (askTurn q (table (now (image .entry)))) .words ⌝ }
@@ -176,6 +177,22 @@ pub fn work(image: &mut [u32], budget: u32) -> Instalment
         };
     }
     instalment(image, budget)
+}
+
+// Opens a question, and works it, at most so many steps.
+pub fn open(image: &mut [u32], q: Question, budget: u32) -> Opening
+    requires { ⌜ T (wellFormed (now image)) ⌝ }
+    ensures { λ r. ⌜ toldOpening r ≡ responseOf (now (image .entry)) (openTurn q budget (table (now (image .entry)))) .says ⌝ }
+    ensures { λ r. ⌜ stepsOf r ≡ responseOf (now (image .entry)) (openTurn q budget (table (now (image .entry)))) .steps ⌝ }
+    ensures { λ _. ⌜ now (image .exit) ≡ responseOf (now (image .entry)) (openTurn q budget (table (now (image .entry)))) .words ⌝ }
+{
+    match ask(image, q) {
+        Reply::Refused(r) => Opening::Refused(r),
+        Reply::Done => {
+            let first = work(image, budget);
+            Opening::Worked(first)
+        }
+    }
 }
 
 // Gives the question up: pending is emptied, and the image idle.

@@ -7,13 +7,14 @@ use model::Dynamic;
 use model::EntryRead;
 use model::Instalment;
 use model::Made;
+use model::Opening;
 use model::Question;
 use model::Record;
 use model::Reply;
 ghost use mathlib.Core.Path.{_≡_};
-ghost use Rattle.model.specs.Calls.{perform, makesVariable, makesPrimitive, makesList, makesLambda, makesAttrset, makesNamed, makesNeg, makesInter, makesUnion, marks, putsBound, enters, exits, setsLevel, under, bothWays, asks, works, abandons, readsEntry, readsRecord, readsDisjoint};
+ghost use Rattle.model.specs.Calls.{perform, makesVariable, makesPrimitive, makesList, makesLambda, makesAttrset, makesNamed, makesNeg, makesInter, makesUnion, marks, putsBound, enters, exits, setsLevel, under, bothWays, opens, works, abandons, readsEntry, readsRecord, readsDisjoint};
 ghost use Rattle.model.specs.Calls.{start as startOf};
-ghost use Rattle.model.specs.Told.{toldMade, toldReply, toldAnswer, toldEntryRead, toldRecord, toldDisjointness};
+ghost use Rattle.model.specs.Told.{toldMade, toldReply, toldAnswer, toldOpening, stepsOf, toldEntryRead, toldRecord, toldDisjointness};
 ghost use Rattle.image.specs.Stores.{capacitiesOf};
 
 // Starts an image in the lent words, whatever stood there: idle, level and counts 0.
@@ -178,10 +179,12 @@ pub fn set_level(image: &mut [u32], variable: u32, level: u32) -> Reply
     }
 }
 
-// Asks whether sub fits under sup; a held question is refused once a question in this table has failed.
-pub fn ask(image: &mut [u32], held: bool, sub: u32, sup: u32) -> Reply
-    ensures { λ r. ⌜ toldReply r ≡ perform (asks (under held sub sup)) (now (image .entry)) .says ⌝ }
-    ensures { λ _. ⌜ now (image .exit) ≡ perform (asks (under held sub sup)) (now (image .entry)) .words ⌝ }
+// Opens the question whether sub fits under sup, and works it, at most so many steps; a held question is refused once a question in this
+// table has failed. Refused at the opening, it does no step and leaves every word; else it is the first instalment, as work gives it.
+pub fn open(image: &mut [u32], held: bool, sub: u32, sup: u32, budget: u32) -> Opening
+    ensures { λ r. ⌜ toldOpening r ≡ perform (opens (under held sub sup) budget) (now (image .entry)) .says ⌝ }
+    ensures { λ r. ⌜ stepsOf r ≡ perform (opens (under held sub sup) budget) (now (image .entry)) .steps ⌝ }
+    ensures { λ _. ⌜ now (image .exit) ≡ perform (opens (under held sub sup) budget) (now (image .entry)) .words ⌝ }
 {
     let q = Question {
         held,
@@ -189,13 +192,14 @@ pub fn ask(image: &mut [u32], held: bool, sub: u32, sup: u32) -> Reply
         left: sub,
         right: sup,
     };
-    asked(image, q)
+    opened(image, q, budget)
 }
 
-// Asks whether each of two entries fits under the other.
-pub fn ask_equal(image: &mut [u32], held: bool, left: u32, right: u32) -> Reply
-    ensures { λ r. ⌜ toldReply r ≡ perform (asks (bothWays held left right)) (now (image .entry)) .says ⌝ }
-    ensures { λ _. ⌜ now (image .exit) ≡ perform (asks (bothWays held left right)) (now (image .entry)) .words ⌝ }
+// Opens the question whether each of two entries fits under the other.
+pub fn open_equal(image: &mut [u32], held: bool, left: u32, right: u32, budget: u32) -> Opening
+    ensures { λ r. ⌜ toldOpening r ≡ perform (opens (bothWays held left right) budget) (now (image .entry)) .says ⌝ }
+    ensures { λ r. ⌜ stepsOf r ≡ perform (opens (bothWays held left right) budget) (now (image .entry)) .steps ⌝ }
+    ensures { λ _. ⌜ now (image .exit) ≡ perform (opens (bothWays held left right) budget) (now (image .entry)) .words ⌝ }
 {
     let q = Question {
         held,
@@ -203,17 +207,18 @@ pub fn ask_equal(image: &mut [u32], held: bool, left: u32, right: u32) -> Reply
         left,
         right,
     };
-    asked(image, q)
+    opened(image, q, budget)
 }
 
-// A question.
-fn asked(image: &mut [u32], q: Question) -> Reply
-    ensures { λ r. ⌜ toldReply r ≡ perform (asks q) (now (image .entry)) .says ⌝ }
-    ensures { λ _. ⌜ now (image .exit) ≡ perform (asks q) (now (image .entry)) .words ⌝ }
+// A question: the image is tested once, for both halves.
+fn opened(image: &mut [u32], q: Question, budget: u32) -> Opening
+    ensures { λ r. ⌜ toldOpening r ≡ perform (opens q budget) (now (image .entry)) .says ⌝ }
+    ensures { λ r. ⌜ stepsOf r ≡ perform (opens q budget) (now (image .entry)) .steps ⌝ }
+    ensures { λ _. ⌜ now (image .exit) ≡ perform (opens q budget) (now (image .entry)) .words ⌝ }
 {
     match formed::admit(image) {
-        Admission::Unfit(r) => Reply::Refused(r),
-        Admission::Good => questions::ask(image, q),
+        Admission::Unfit(r) => Opening::Refused(r),
+        Admission::Good => questions::open(image, q, budget),
     }
 }
 
