@@ -2,7 +2,7 @@
 -- instalment, the words are those of the steps before, their number is told, and the question is asked. Assumes nothing.
 use Prim.Native.Nat.{ℕ, suc}
 use native.Mathlib.Omega.{arith}
-use mathlib.Core.Path.{_≡_, refl, sym, ap, _∙_, subst}
+use mathlib.Core.Path.{_≡_, refl, sym, ap, _∙_}
 use mathlib.Core.List.{List}
 use mathlib.Core.Bool.{true, not}
 use lib.Dec.{T}
@@ -13,7 +13,7 @@ use Rattle.model.specs.Image.{table}
 use Rattle.model.specs.Formed.{wellFormed}
 use Rattle.model.specs.Rules.{rule}
 use Rattle.model.specs.Room.{room}
-use Rattle.model.specs.Calls.{Response, Turn, refuse, tell, leave, responseOf, askTurn, workedTurn, workTurn, opens, works, turnOf, perform, asked}
+use Rattle.model.specs.Calls.{Response, Turn, refuse, tell, leave, responseOf, workedTurn, workTurn, opens, works, turnOf, perform, asked}
 use Rattle.model.specs.Told.{Told, toldRefusal, toldUnopened}
 use Rattle.model.specs.declared.Question.{Question}
 use Rattle.model.specs.declared.Failure.{Failure}
@@ -21,7 +21,7 @@ use Rattle.model.specs.declared.Refusal.{Refusal}
 use Rattle.model.specs.declared.Refusal.the-variants as R
 use Rattle.laws.specs.Refusals.{forRoom, KeepsEarlier}
 use Rattle.laws.proofs.Tests.{true-of}
-use Rattle.laws.proofs.Replies.{by-provided, passed-by, perform-formed}
+use Rattle.laws.proofs.Replies.{passed-by, perform-formed}
 use Rattle.laws.proofs.Questions.{Opened, opened-works, opened-stays, says-unopened, says-opened}
 use Rattle.laws.proofs.Refused.{WorkRefuses, worked-by, work-refused-keeps, work-refused-stays}
 
@@ -40,13 +40,6 @@ worked-leaves budget (refused-in k w u q) = tt
 
 refusal-not-unopened : (r w : Refusal) → _≡_ {A = Told} (toldRefusal r) (toldUnopened w) → ⊥
 refusal-not-unopened r w e = let z : _≡_ {A = ℕ} 0 1 = cc in omega arith
-
--- a question opens where none is asked
-opened-idle : (q : Question) (ws : List ℕ) → Opened q ws → T (not (isAsked (table ws)))
-unfolding askTurn
-opened-idle q ws o =
-    by-provided (λ (turn : Turn). Leaving turn → T (not (isAsked (table ws)))) (not (isAsked (table ws))) (λ h l. absurd l) (λ h l. h)
-    (subst Leaving (sym (o .asks)) tt)
 
 -- work of a well formed image that is asked is refused by 5 or 6 alone
 worked-for-room : (b : ℕ) (ws : List ℕ) (turn : Turn) → WorkRefuses b turn → (r : Refusal) → responseOf ws turn .says ≡ toldRefusal r → Leaving turn → T (forRoom r)
@@ -89,7 +82,7 @@ module _ (q : Question) (b : ℕ) (ws : List ℕ) (r : Refusal) (e : perform (op
   opening-for-room = true-of (forRoom r) (asked-for-room b v (is-opened .stays) (opened-stays q ws is-opened) r work-says)
 
   pub opening-was-idle : T (not (isAsked (table ws)))
-  opening-was-idle = opened-idle q ws is-opened
+  opening-was-idle = is-opened .idle
 
   pub opening-refused-keeps : KeepsEarlier (opens q) b ws (perform (opens q b) ws .steps) (perform (opens q b) ws .words)
   opening-refused-keeps =
