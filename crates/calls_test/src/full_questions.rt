@@ -91,15 +91,15 @@ fn fill(words: &mut [u32], c: Capacities) {
         return;
     }
     let image = &mut words[0..size];
-    start(image, c);
+    start_afresh(image, c);
     script::run(image, FIRST, WORKED);
     print(b";");
-    start(image, c);
+    start_afresh(image, c);
     script::run(image, WORKED, END);
 }
 
 // Starts the image, and makes its entries.
-fn start(image: &mut [u32], c: Capacities) {
+fn start_afresh(image: &mut [u32], c: Capacities) {
     sheafwinch::start(image, 0, 0, c);
     make_entries(image);
 }

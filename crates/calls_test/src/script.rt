@@ -97,8 +97,8 @@ fn deepen(words: &mut [u32], which: u32) -> Made {
 // the opening works too.
 fn question(words: &mut [u32], which: u32) -> Told {
     match which {
-        19 | 31 => of_opening(open_equal(words, budget(which))),
-        25 | 34 => of_opening(open(words, budget(which))),
+        19 | 31 => of_opening(open_both(words, budget(which))),
+        25 | 34 => of_opening(open_under(words, budget(which))),
         24 | 30 | 33 | 36 => of_reply(sheafwinch::abandon(words)),
         _ => of_instalment(sheafwinch::work(words, 1)),
     }
@@ -110,11 +110,11 @@ fn budget(which: u32) -> u32 {
 }
 
 // Opens the first question.
-fn open_equal(words: &mut [u32], budget: u32) -> Opening {
+fn open_both(words: &mut [u32], budget: u32) -> Opening {
     sheafwinch::open_equal(words, false, 2, 0, budget)
 }
 
 // Opens the second.
-fn open(words: &mut [u32], budget: u32) -> Opening {
+fn open_under(words: &mut [u32], budget: u32) -> Opening {
     sheafwinch::open(words, false, 3, 4, budget)
 }

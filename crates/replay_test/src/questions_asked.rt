@@ -82,7 +82,7 @@ fn opened(words: &mut [u32], letter: u8, left: u32, right: u32, budget: u32) -> 
 fn begin(tally: &mut [u32; 96], limit: u32, budget: u32, opening: Opening) -> Worked {
     match opening {
         Opening::Refused(r) => ended(UNOPENED + refusals::number(r), 0, 0, 0, 0),
-        Opening::Worked(r) => with(tally, 0, limit, budget, r),
+        Opening::Worked(r) => added(tally, 0, limit, budget, r),
     }
 }
 
@@ -116,11 +116,11 @@ fn work_on(words: &mut [u32], tally: &mut [u32; 96], w: Worked, budget: u32) -> 
         return w;
     }
     let r = sheafwinch::work(words, budget);
-    with(tally, w.steps, w.left, budget, r)
+    added(tally, w.steps, w.left, budget, r)
 }
 
-// What is answered with an instalment more: the steps and what was left of the limit before it, its budget, and itself.
-fn with(tally: &mut [u32; 96], before: u32, limit: u32, budget: u32, r: Instalment) -> Worked {
+// What the instalments answered with one more: the steps and what was left of the limit before it, its budget, and itself.
+fn added(tally: &mut [u32; 96], before: u32, limit: u32, budget: u32, r: Instalment) -> Worked {
     add(tally, INSTALMENTS, 1);
     let steps = std::num::wrapping_add_u32(before, r.steps);
     let left = std::num::wrapping_sub_u32(limit, r.steps);

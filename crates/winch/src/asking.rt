@@ -34,7 +34,7 @@ pub struct Question {
 }
 
 // Opens a question; works it to the end or to the limit, unless it stays open.
-pub fn ask(
+pub fn open_question(
     fd: i32,
     text: &[u8],
     desk: &[u32; 10256],
@@ -42,7 +42,7 @@ pub fn ask(
     words: &mut [u32],
     q: Question,
 ) {
-    match opened(words, q, first(desk, q)) {
+    match opened(words, q, first_budget(desk, q)) {
         Opening::Refused(r) => tell_refusal(fd, names, r),
         Opening::Worked(done) => {
             if q.is_open {
@@ -55,7 +55,7 @@ pub fn ask(
 }
 
 // The first instalment's budget: 0 where the question stays open.
-fn first(desk: &[u32; 10256], q: Question) -> u32 {
+fn first_budget(desk: &[u32; 10256], q: Question) -> u32 {
     if q.is_open { 0 } else { budget(limit(desk)) }
 }
 
