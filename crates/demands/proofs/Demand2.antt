@@ -46,11 +46,11 @@ question-answered {w = w} {a} q course =
     let i = opened-in-instalments q course in
     record {
       to-yes = λ e.
-        let p = i .to-yes e in
-        (p .0, p .1, read-as w (tableOf (p .0) []) (course-formed q (λ r g. yes-not-unopened r (sym e ∙ g)) course) (p .2));
+          let p = i .to-yes e in
+          (p .0, p .1, read-as w (tableOf (p .0) []) (course-formed q (λ r g. yes-not-unopened r (sym e ∙ g)) course) (p .2));
       to-failure = λ f e.
-        let p = i .to-failure f e in
-        (p .0, p .1, read-as w (tableOf (p .0) []) (course-formed q (λ r g. unopened-not-failure r f (sym g ∙ e)) course) (p .2));
+          let p = i .to-failure f e in
+          (p .0, p .1, read-as w (tableOf (p .0) []) (course-formed q (λ r g. unopened-not-failure r f (sym g ∙ e)) course) (p .2));
     }
 
 -- A plain question is never refused by 8.
