@@ -8,7 +8,7 @@ use bench_table::make_table;
 use bench_table::make_with;
 use bench_table::room;
 use left::print_left;
-use model::Reply;
+use model::Opening;
 use printing::print;
 use printing::print_one;
 use printing::print_two;
@@ -61,13 +61,12 @@ fn print_again() {
     print_left(&words);
 }
 
-// B3 in instalments.
+// B3 in instalments, the opening among them.
 fn print_budgets() {
     let mut words = room();
     make_table(&mut words);
-    sheafwinch::ask(&mut words, false, 1, 6);
     print(b"B3 with budgets 0, 2, 1: ");
-    print_work(&mut words, 0);
+    print_opening(sheafwinch::open(&mut words, false, 1, 6, 0));
     print(b"; ");
     print_work(&mut words, 2);
     print(b"; ");
@@ -95,12 +94,17 @@ fn print_full() {
     print_left(image);
 }
 
-// Asks, works to the end, and tells what is asked, in a pattern, and what is answered.
+// Opens a question with the largest budget, and tells what is asked, in a pattern, and what is answered.
 fn print_question(words: &mut [u32], pattern: &[u8], held: bool, sub: u32, sup: u32) {
     print_two(pattern, sub, sup);
-    match sheafwinch::ask(words, held, sub, sup) {
-        Reply::Done => print_work(words, ALL),
-        Reply::Refused(r) => print_refusal(&NAMES, r),
+    print_opening(sheafwinch::open(words, held, sub, sup, ALL));
+}
+
+// What an opening answers: a refusal, and no steps; or the first instalment.
+fn print_opening(opening: Opening) {
+    match opening {
+        Opening::Refused(r) => print_refusal(&NAMES, r),
+        Opening::Worked(done) => print_instalment(&NAMES, done),
     }
 }
 

@@ -1,5 +1,6 @@
 // Two small questions at every capacity from 0 to what they need, of one region while the others have room: bounds, visited, pending
-// and equals. The work goes step by step, so that a step that is refused is held to the words before it.
+// and equals. The work goes step by step, so that a step that is refused is held to the words before it. Then the same on an image
+// started afresh, where the openings work too.
 use crate::script;
 use image::Capacities;
 use printing::print;
@@ -8,15 +9,19 @@ use table_words::size_of;
 ghost use mathlib.Core.Path.{_≡_};
 ghost use lib.ListN.{length};
 
-// The script's calls, from the first to before the end.
+// The script's calls from the first on, those whose openings work, and the end.
 const FIRST: u32 = 19;
 
-const END: u32 = 31;
+const WORKED: u32 = 31;
+
+const END: u32 = 37;
 
 // A line for the capacities of bounds, visited, pending and equals: the answers of the script's calls.
 pub fn print_lines() {
     print(
-        b"Bounds, visited, pending, equals: what ask equal, work by 1 step four times, abandon answer; the same of ask\n",
+        b"Bounds, visited, pending, equals: what open equal by 0 steps, work by 1 step four times, abandon answer, the same of open;
+afresh, what open equal by 3 steps, work by 1 step, abandon answer, the same of open;
+uN where an opening is refused N, rN+S where a step of its first instalment is, after S steps\n",
     );
     each_bounds();
     each_visited();
@@ -79,16 +84,24 @@ fn capacities(bounds: u32, visited: u32, pending: u32, equals: u32) -> Capacitie
     }
 }
 
-// Starts the image in as many words as it takes, makes its entries, and runs the script.
+// Runs the script in as many words as the image takes, started afresh where the openings work.
 fn fill(words: &mut [u32], c: Capacities) {
     let size = size_of(c);
     if words.len() < size {
         return;
     }
     let image = &mut words[0..size];
+    start_afresh(image, c);
+    script::run(image, FIRST, WORKED);
+    print(b";");
+    start_afresh(image, c);
+    script::run(image, WORKED, END);
+}
+
+// Starts the image, and makes its entries.
+fn start_afresh(image: &mut [u32], c: Capacities) {
     sheafwinch::start(image, 0, 0, c);
     make_entries(image);
-    script::run(image, FIRST, END);
 }
 
 // Entries 0 Int, 1 Number, 2 a variable, 3 lambda(1, 0), 4 lambda(0, 1).

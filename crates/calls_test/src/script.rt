@@ -2,12 +2,14 @@
 use crate::answers::Told;
 use crate::answers::of_instalment;
 use crate::answers::of_made;
+use crate::answers::of_opening;
 use crate::answers::of_reply;
 use crate::answers::print_told;
 use crate::copies::copied;
 use crate::copies::same;
 use model::Dynamic;
 use model::Made;
+use model::Opening;
 use model::Reply;
 ghost use Prim.Native.Nat.{_≤_};
 
@@ -34,7 +36,7 @@ fn attempt(words: &mut [u32], which: u32) {
     print_told(told, same(&before, words));
 }
 
-// Calls 0 to 13 fill regions, 14 to 18 go after a chain of unions, 19 to 30 ask and work.
+// Calls 0 to 13 fill regions, 14 to 18 go after a chain of unions, 19 to 36 open questions and work them.
 fn call(words: &mut [u32], which: u32) -> Told {
     match which {
         0..=7 => of_made(make(words, which)),
@@ -91,19 +93,28 @@ fn deepen(words: &mut [u32], which: u32) -> Made {
     }
 }
 
-// The variable equal to Int, and lambda(Number, Int) under lambda(Int, Number): asked, worked step by step, given up.
+// The variable equal to Int, and lambda(Number, Int) under lambda(Int, Number): opened, worked step by step, given up. From call 31 on
+// the opening works too.
 fn question(words: &mut [u32], which: u32) -> Told {
     match which {
-        19 | 24 | 25 | 30 => of_reply(asked(words, which)),
+        19 | 31 => of_opening(open_both(words, budget(which))),
+        25 | 34 => of_opening(open_under(words, budget(which))),
+        24 | 30 | 33 | 36 => of_reply(sheafwinch::abandon(words)),
         _ => of_instalment(sheafwinch::work(words, 1)),
     }
 }
 
-// Asks, or gives up.
-fn asked(words: &mut [u32], which: u32) -> Reply {
-    match which {
-        19 => sheafwinch::ask_equal(words, false, 2, 0),
-        25 => sheafwinch::ask(words, false, 3, 4),
-        _ => sheafwinch::abandon(words),
-    }
+// What an opening may work: nothing, or as many steps as each question takes.
+fn budget(which: u32) -> u32 {
+    if which < 31 { 0 } else { 3 }
+}
+
+// Opens the first question.
+fn open_both(words: &mut [u32], budget: u32) -> Opening {
+    sheafwinch::open_equal(words, false, 2, 0, budget)
+}
+
+// Opens the second.
+fn open_under(words: &mut [u32], budget: u32) -> Opening {
+    sheafwinch::open(words, false, 3, 4, budget)
 }

@@ -1,5 +1,5 @@
 // The lines of questions. A question is worked in five instalments: 0 to 3 steps, 1, 2, 3, and the rest: what is left of the limit
-// where the Rust was stopped, else all that a budget can say.
+// where the Rust was stopped, else all that a budget can say. The first is its opening.
 use crate::compared::done;
 use crate::held;
 use crate::held::expect;
@@ -10,7 +10,8 @@ use crate::tally::STEPS;
 use crate::tally::add;
 use model::Answer;
 use model::Failure;
-use model::Reply;
+use model::Instalment;
+use model::Opening;
 use table_words::word;
 
 // How a question ended.
@@ -22,8 +23,10 @@ const MISMATCH: u32 = 2;
 
 const MISSING: u32 = 3;
 
-// Added to a refusal's number.
+// Added to the number of a refusal: of work or a step, and at the opening.
 const REFUSED: u32 = 100;
+
+const UNOPENED: u32 = 200;
 
 // The largest budget.
 const UNLIMITED: u32 = 4294967295;
@@ -41,9 +44,11 @@ struct Worked {
 // A question: two entries, the limit, the steps, the answer, and the pair and the name that it has.
 pub fn question(words: &mut [u32], tally: &mut [u32; 96], letter: u8, line: &[u32]) {
     add(tally, QUESTIONS, 1);
-    done(tally, asked(words, letter, word(line, 0), word(line, 1)));
-    let first = tally[QUESTIONS] % 4;
-    let w = work_all(words, tally, limit_of(line), first);
+    let limit = limit_of(line);
+    let first = least(tally[QUESTIONS] % 4, limit);
+    let o = opened(words, letter, word(line, 0), word(line, 1), first);
+    let begun = begin(tally, limit, first, o);
+    let w = work_all(words, tally, begun);
     settle(words, tally, line, w);
 }
 
@@ -65,36 +70,36 @@ fn settle(words: &mut [u32], tally: &mut [u32; 96], line: &[u32], w: Worked) {
     }
 }
 
-// Asks it, plain.
-fn asked(words: &mut [u32], letter: u8, left: u32, right: u32) -> Reply {
+// Opens it, plain.
+fn opened(words: &mut [u32], letter: u8, left: u32, right: u32, budget: u32) -> Opening {
     match letter {
-        b'a' => sheafwinch::ask(words, false, left, right),
-        _ => sheafwinch::ask_equal(words, false, left, right),
+        b'a' => sheafwinch::open(words, false, left, right, budget),
+        _ => sheafwinch::open_equal(words, false, left, right, budget),
     }
 }
 
-// Works it.
-fn work_all(words: &mut [u32], tally: &mut [u32; 96], limit: u32, first: u32) -> Worked {
-    let mut w = Worked {
-        answer: MORE,
-        sub: 0,
-        sup: 0,
-        name: 0,
-        steps: 0,
-        left: limit,
-    };
-    let mut turn: u32 = 0;
+// What its opening answered: a refusal, or the first instalment.
+fn begin(tally: &mut [u32; 96], limit: u32, budget: u32, opening: Opening) -> Worked {
+    match opening {
+        Opening::Refused(r) => ended(UNOPENED + refusals::number(r), 0, 0, 0, 0),
+        Opening::Worked(r) => added(tally, 0, limit, budget, r),
+    }
+}
+
+// Works it on, in four instalments.
+fn work_all(words: &mut [u32], tally: &mut [u32; 96], begun: Worked) -> Worked {
+    let mut w = begun;
+    let mut turn: u32 = 1;
     while turn < 5 {
-        w = work_on(words, tally, w, budget(turn, first, w.left));
+        w = work_on(words, tally, w, budget(turn, w.left));
         turn += 1;
     }
     w
 }
 
-// An instalment's budget.
-fn budget(turn: u32, first: u32, left: u32) -> u32 {
+// The budget of an instalment after the first.
+fn budget(turn: u32, left: u32) -> u32 {
     match turn {
-        0 => least(first, left),
         4 => left,
         _ => least(turn, left),
     }
@@ -110,10 +115,15 @@ fn work_on(words: &mut [u32], tally: &mut [u32; 96], w: Worked, budget: u32) -> 
     if w.answer != MORE {
         return w;
     }
-    add(tally, INSTALMENTS, 1);
     let r = sheafwinch::work(words, budget);
-    let steps = std::num::wrapping_add_u32(w.steps, r.steps);
-    let left = std::num::wrapping_sub_u32(w.left, r.steps);
+    added(tally, w.steps, w.left, budget, r)
+}
+
+// What the instalments answered with one more: the steps and what was left of the limit before it, its budget, and itself.
+fn added(tally: &mut [u32; 96], before: u32, limit: u32, budget: u32, r: Instalment) -> Worked {
+    add(tally, INSTALMENTS, 1);
+    let steps = std::num::wrapping_add_u32(before, r.steps);
+    let left = std::num::wrapping_sub_u32(limit, r.steps);
     let answer = r.answer;
     match answer {
         Answer::Yes => ended(YES, 0, 0, 0, steps),

@@ -22,14 +22,15 @@ fn print_refusals(fd: i32) {
     write(
         fd,
         b"
-A refusal is an answer, and changes nothing in the table but by the steps that it tells:
+A refusal is an answer. With steps N it is one of a step: the N steps before are kept, and the question stays asked. Without, it is one of
+the opening or of another call, and changes nothing in the table:
 refused 2 BAD NUMBER       an entry, name or record that is not there; a primitive, side, region or operator that is none
 refused 3 BUSY             a question is open: work or abandon it first
 refused 4 IDLE             no question is open
-refused 5 NO ROOM REGION   a region is full; steps N: those that were made before, which are kept, and the question stays open
-refused 6 TOO DEEP         an entry's spread would pass 1024; steps N as above
+refused 5 NO ROOM REGION   a region is full
+refused 6 TOO DEEP         an entry's spread would pass 1024
 refused 7 BAD FIELDS       a field is named twice, or its OPT is not 0 or 1
-refused 8 BROKEN WHY       a question in this table has failed, so none is asked held
+refused 8 BROKEN WHY       a question in this table has failed, so none is opened held
 refused 9 BAD CAPACITY     more than 4096 entries, 16384 fields, or 65536 of the others
 refused 10 LEVEL           exit at level 0, or enter at the last level
 refused 11 NOT A VARIABLE  bound or setlevel of another entry
@@ -104,13 +105,13 @@ setlevel V N        sets the level of the variable V
 fn print_questions(fd: i32) {
     write(
         fd,
-        b"ask A B             whether A fits under B: yes steps N, missing SUB SUP NAME steps N,
+        b"ask A B             opens the question whether A fits under B, and works it: yes steps N, missing SUB SUP NAME steps N,
                     or mismatch SUB SUP steps N [SUB'S ENTRY] [SUP'S]; every 10000 steps are told on standard error
-equal A B           whether A and B fit under each other; answers as ask
+equal A B           the same, whether A and B fit under each other; answers as ask
 held ask A B        the same, refused once a question in this table has failed; also held equal
-open ask A B        only asks, for work; also open equal, held open ask, held open equal
+open ask A B        opens it with budget 0, for work; also open equal, held open ask, held open equal
 work N              works the open question N steps more at most; answers as ask, or more steps N; work alone: to its end
-abandon             gives the open question up; one that was refused 5 or 6 is open until then
+abandon             gives the open question up; one that was refused with steps N is open until then
 limit N             at most N steps for each ask and equal after this: more, and the question is given up; -1: no limit
 plain 1             leaves the limit aside from here on; 0: back
 ",

@@ -1,9 +1,10 @@
-// Questions: asked plain or held, worked to the end or in instalments, abandoned.
+// Questions: opened plain or held, worked to the end or in instalments, abandoned.
 use dumps::shown::print_entry;
 use libc::STDERR_FILENO;
 use model::Answer;
 use model::Failure;
 use model::Instalment;
+use model::Opening;
 use model::Refusal;
 use model::Reply;
 use printing::write;
@@ -23,7 +24,7 @@ const INSTALMENT: u32 = 10000;
 // The largest budget.
 pub const ALL: u32 = 4294967295;
 
-// How a question is asked.
+// How a question is opened.
 pub struct Question {
     pub is_held: bool,
     pub is_open: bool,
@@ -32,8 +33,8 @@ pub struct Question {
     pub right: u32,
 }
 
-// Asks; works to the end or to the limit, unless the question stays open.
-pub fn ask(
+// Opens a question; works it to the end or to the limit, unless it stays open.
+pub fn open_question(
     fd: i32,
     text: &[u8],
     desk: &[u32; 10256],
@@ -41,30 +42,58 @@ pub fn ask(
     words: &mut [u32],
     q: Question,
 ) {
-    match asked(words, q) {
-        Reply::Refused(r) => tell_refusal(fd, names, r),
-        Reply::Done => {
+    match opened(words, q, first_budget(desk, q)) {
+        Opening::Refused(r) => tell_refusal(fd, names, r),
+        Opening::Worked(done) => {
             if q.is_open {
-                tell(fd, b"asked");
+                tell_open(fd, text, desk, names, words, done);
             } else {
-                settle(fd, text, desk, names, words);
+                settle(fd, text, desk, names, words, done);
             }
         }
     }
 }
 
-// Asks.
-fn asked(words: &mut [u32], q: Question) -> Reply {
+// The first instalment's budget: 0 where the question stays open.
+fn first_budget(desk: &[u32; 10256], q: Question) -> u32 {
+    if q.is_open { 0 } else { budget(limit(desk)) }
+}
+
+// Opens it.
+fn opened(words: &mut [u32], q: Question, budget: u32) -> Opening {
     if q.is_equal {
-        sheafwinch::ask_equal(words, q.is_held, q.left, q.right)
+        sheafwinch::open_equal(words, q.is_held, q.left, q.right, budget)
     } else {
-        sheafwinch::ask(words, q.is_held, q.left, q.right)
+        sheafwinch::open(words, q.is_held, q.left, q.right, budget)
     }
 }
 
-// Works to the end, or to the limit; what has not ended there is given up.
-fn settle(fd: i32, text: &[u8], desk: &[u32; 10256], names: &[u8], words: &mut [u32]) {
-    let done = work_on(words, limit(desk));
+// A question that stays open: its opening made no step.
+fn tell_open(
+    fd: i32,
+    text: &[u8],
+    desk: &[u32; 10256],
+    names: &[u8],
+    words: &[u32],
+    done: Instalment,
+) {
+    if is_more(done) {
+        tell(fd, b"asked");
+    } else {
+        tell_instalment(fd, text, desk, names, words, done);
+    }
+}
+
+// Goes on after the first instalment to the end, or to the limit; what has not ended there is given up.
+fn settle(
+    fd: i32,
+    text: &[u8],
+    desk: &[u32; 10256],
+    names: &[u8],
+    words: &mut [u32],
+    first: Instalment,
+) {
+    let done = work_on(words, first, limit(desk));
     tell_instalment(fd, text, desk, names, words, done);
     if is_more(done) {
         sheafwinch::abandon(words);
@@ -83,9 +112,9 @@ fn limit(desk: &[u32; 10256]) -> u32 {
     }
 }
 
-// Works so many steps in instalments, and tells how far it is after each but the last.
-fn work_on(words: &mut [u32], limit: u32) -> Instalment {
-    let mut done = sheafwinch::work(words, budget(limit));
+// Works so many steps in instalments, after the first, and tells how far it is after each but the last.
+fn work_on(words: &mut [u32], first: Instalment, limit: u32) -> Instalment {
+    let mut done = first;
     let mut left = limit;
     while INSTALMENT < left {
         if !is_more(done) {
@@ -126,17 +155,40 @@ fn tell_so_far(steps: u32) {
     write_one(STDERR_FILENO, b"steps so far: %\n", steps);
 }
 
-// Works an instalment of an open question.
+// Works an open question, so many steps at most.
 pub fn work(
     fd: i32,
     text: &[u8],
     desk: &[u32; 10256],
     names: &[u8],
     words: &mut [u32],
-    budget: u32,
+    limit: u32,
 ) {
-    let done = work_on(words, budget);
-    tell_instalment(fd, text, desk, names, words, done);
+    let first = sheafwinch::work(words, budget(limit));
+    let done = work_on(words, first, limit);
+    let answer = done.answer;
+    match answer {
+        Answer::Refused(r) => tell_unfinished(fd, names, r, done.steps),
+        _ => tell_instalment(fd, text, desk, names, words, done),
+    }
+}
+
+// A refusal of work: of a step, with the steps that were made; of the call, without.
+fn tell_unfinished(fd: i32, names: &[u8], r: Refusal, steps: u32) {
+    print_refusal(fd, names, r);
+    if is_of_step(r) {
+        print_steps(fd, steps);
+    }
+    write(fd, b"\n");
+}
+
+// Whether a refusal of work is one of a step.
+fn is_of_step(r: Refusal) -> bool {
+    match r {
+        Refusal::NoRoom(_) => true,
+        Refusal::TooDeep => true,
+        _ => false,
+    }
 }
 
 // Gives a question up.
@@ -147,7 +199,7 @@ pub fn abandon(fd: i32, names: &[u8], words: &mut [u32]) {
     }
 }
 
-// An answer, and the steps of its instalment.
+// What the steps of an instalment answer, and how many they are: a refusal here is one of a step.
 fn tell_instalment(
     fd: i32,
     text: &[u8],
@@ -163,9 +215,7 @@ fn tell_instalment(
         Answer::Failed(f) => print_failure(fd, names, f),
         Answer::Refused(r) => print_refusal(fd, names, r),
     }
-    if keeps_steps(answer) {
-        write_one(fd, b" steps %", done.steps);
-    }
+    print_steps(fd, done.steps);
     match answer {
         Answer::Failed(f) => print_shapes(fd, text, desk, names, words, f),
         _ => {}
@@ -173,21 +223,9 @@ fn tell_instalment(
     write(fd, b"\n");
 }
 
-// Whether an answer tells its steps: all but refusals that keep none.
-fn keeps_steps(answer: Answer) -> bool {
-    match answer {
-        Answer::Refused(r) => is_unfinished(r),
-        _ => true,
-    }
-}
-
-// Whether a refusal keeps the steps that were made.
-fn is_unfinished(r: Refusal) -> bool {
-    match r {
-        Refusal::NoRoom(_) => true,
-        Refusal::TooDeep => true,
-        _ => false,
-    }
+// The steps of an instalment.
+fn print_steps(fd: i32, steps: u32) {
+    write_one(fd, b" steps %", steps);
 }
 
 // Why a question failed.

@@ -1,6 +1,6 @@
 // The lines of a script, one after the other: a verb and its words.
 use crate::asking::Question;
-use crate::asking::ask;
+use crate::asking::open_question;
 use crate::table_verbs::obey_table;
 use crate::tables::start;
 use crate::tables::start_largest;
@@ -112,7 +112,7 @@ fn obey_question(
         return;
     }
     let q = question(s, args[0], args[1]);
-    ask_table(fd, text, desk, list, words, q);
+    open_in_table(fd, text, desk, list, words, q);
 }
 
 // Reads the entries of a question that is held or stays open; else what is wrong is told.
@@ -154,8 +154,8 @@ fn tell_misplaced(fd: i32, desk: &mut [u32; 10256], word: &[u8]) {
     wrong_after(fd, desk, NOT_BEFORE, word);
 }
 
-// Asks in the table's words, and with its names.
-fn ask_table(
+// Opens it in the table's words, and with its names.
+fn open_in_table(
     fd: i32,
     text: &[u8],
     desk: &[u32; 10256],
@@ -168,10 +168,10 @@ fn ask_table(
     if words.len() < size {
         return;
     }
-    ask(fd, text, desk, part(list, 0, bytes), &mut words[0..size], q);
+    open_question(fd, text, desk, part(list, 0, bytes), &mut words[0..size], q);
 }
 
-// Whether a verb asks.
+// Whether a verb opens a question.
 fn is_question(number: u32) -> bool {
     match number {
         verbs::ASK | verbs::EQUAL => true,

@@ -2,7 +2,7 @@
 use crate::asking::ALL;
 use crate::asking::Question;
 use crate::asking::abandon;
-use crate::asking::ask;
+use crate::asking::open_question;
 use crate::asking::work;
 use crate::attrsets::attr;
 use crate::attrsets::named;
@@ -190,7 +190,7 @@ fn obey_moves(
         verbs::ENTER => move_level(fd, names, words, true),
         verbs::EXIT => move_level(fd, names, words, false),
         verbs::ABANDON => abandon(fd, names, words),
-        _ => ask(fd, text, desk, names, words, plain(number, x, y)),
+        _ => open_question(fd, text, desk, names, words, plain(number, x, y)),
     }
 }
 

@@ -7,10 +7,10 @@ use Rattle.replay_test.proofs.questions_asked.work_all.Statement.{state
 use Rattle.replay_test.proofs.questions_asked.work_all.Tie as tie
 
 abbrev Inv-loop : tie.InvT-loop
-Inv-loop words₀ tally₀ limit first w₀ turn₀ words tally w turn = (turn ≤ 5) × (length words ≡ length words₀)
+Inv-loop words₀ tally₀ w₀ turn₀ words tally w turn = (turn ≤ 5) × (length words ≡ length words₀)
 
 abbrev μ-loop : tie.MeasureT-loop
-μ-loop words₀ tally₀ limit first w₀ turn₀ words tally w turn = 5 - turn
+μ-loop words₀ tally₀ w₀ turn₀ words tally w turn = 5 - turn
 
 loop-holds : tie.Need-loop-holds Inv-loop μ-loop
 loop-holds c = search needs

@@ -11,12 +11,6 @@ Inv-loop words₀ limit done₀ left₀ words done left = length words ≡ lengt
 abbrev μ-loop : tie.MeasureT-loop
 μ-loop words₀ limit done₀ left₀ words done left = left
 
-budget-requires : tie.Need-budget-requires Inv-loop μ-loop
-budget-requires c κs = search needs
-
-work-requires : tie.Need-work-requires Inv-loop μ-loop
-work-requires c κs = search needs
-
 loop-holds : tie.Need-loop-holds Inv-loop μ-loop
 loop-holds c = search needs
 
@@ -35,11 +29,11 @@ tell-so-far-requires c κs = search needs
 sub-left : tie.Need-sub-left Inv-loop μ-loop
 sub-left c = search needs
 
-budget-requires-2 : tie.Need-budget-requires-2 Inv-loop μ-loop
-budget-requires-2 c κs = search needs
+budget-requires : tie.Need-budget-requires Inv-loop μ-loop
+budget-requires c κs = search needs
 
-work-requires-2 : tie.Need-work-requires-2 Inv-loop μ-loop
-work-requires-2 c κs = search needs
+work-requires : tie.Need-work-requires Inv-loop μ-loop
+work-requires c κs = search needs
 
 added-requires : tie.Need-added-requires Inv-loop μ-loop
 added-requires c κs = search needs
@@ -62,16 +56,14 @@ work-on-spec =
     (tie.spec
     Inv-loop
     μ-loop
-    budget-requires
-    work-requires
     loop-holds
     is-more-requires
     same-length
     returns
     tell-so-far-requires
     sub-left
-    budget-requires-2
-    work-requires-2
+    budget-requires
+    work-requires
     added-requires
     loop-less
     loop-again
