@@ -1,5 +1,6 @@
 //! Sheafwinch for Rust: decides whether one shape fits under another, at once or in instalments. The calls are those of the proved
-//! library's C face, `include/sheafwinch.h`; every call ends, on any argument, and a refusal leaves every word as found.
+//! library's C face, `include/sheafwinch.h`; every call ends, on any argument, and a refusal leaves every word as found, but for the
+//! steps done before one that is refused.
 //!
 //! ```
 //! use sheafwinch::{Answer, Capacities, Failure, Primitive, Table};
@@ -900,7 +901,7 @@ mod tests {
         let room = Capacities { entries: 1, visited: 1, pending: 2, equals: 1, ..Capacities::default() };
         let mut table = Table::start(0, None, room).unwrap();
         table.make_variable().unwrap();
-        table.words[0] = 2;
+        table.words.pop();
         let before = table.clone();
         for open in [Table::open, Table::open_held, Table::open_equal, Table::open_equal_held] {
             assert_eq!(open(&mut table, 0, 0, 9), Err(Refusal::BadTable));
