@@ -225,14 +225,14 @@ fn refused_at_the_opening(t: &mut Table, sub: u32, sup: u32, opens: &[Open], ref
 
 #[test]
 fn refusals_at_the_opening() {
-    let (held, equal) = (&OPENS[1..2], &OPENS[2..]);
+    let (held, equal) = ([OPENS[1], OPENS[3]], &OPENS[2..]);
     let broken = Refusal::Broken(Failure::Mismatch { sub: 1, sup: 0 });
     let mut t = table();
     refused_at_the_opening(&mut t, 15, 0, &OPENS, Refusal::BadNumber);
     refused_at_the_opening(&mut t, 0, 15, &OPENS, Refusal::BadNumber);
     assert_eq!(open(&mut t, 1, 0).answer, mismatch(1, 0));
     // 8 is before 2
-    refused_at_the_opening(&mut t, 15, 0, &[held[0], OPENS[3]], broken);
+    refused_at_the_opening(&mut t, 15, 0, &held, broken);
     assert_eq!(t.open(1, 6, 0), Ok(more(0)));
     // 3 is before both
     refused_at_the_opening(&mut t, 15, 0, &OPENS, Refusal::Busy);
