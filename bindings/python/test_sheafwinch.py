@@ -193,6 +193,14 @@ class Openings(unittest.TestCase):
         self.assertTrue(t.asked())
         self.assertEqual(records(t, Region.PENDING), [Pair(1, 6)])
 
+    def test_held_is_plain_where_none_failed(self):
+        before = bench_table()
+        for call in ("open", "open_equal"):
+            for sub, sup in ((a, b) for a in range(15) for b in range(15)):
+                plain, held = before.copy(), before.copy()
+                self.assertEqual(getattr(held, call)(sub, sup, 9, held=True), getattr(plain, call)(sub, sup, 9))
+                self.assertEqual(held, plain)
+
     def told(self, call, *arguments):
         """What a call answers, or the refusal of its step."""
         try:

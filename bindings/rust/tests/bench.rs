@@ -261,6 +261,17 @@ fn no_room_at_the_opening_and_at_a_step() {
 }
 
 #[test]
+fn held_is_plain_where_none_failed() {
+    for (plain, held) in [(OPENS[0], OPENS[1]), (OPENS[2], OPENS[3])] {
+        for (sub, sup) in (0..15).flat_map(|sub| (0..15).map(move |sup| (sub, sup))) {
+            let (mut t, mut other) = (table(), table());
+            assert_eq!(held(&mut t, sub, sup, 9), plain(&mut other, sub, sup, 9));
+            assert_eq!(t, other);
+        }
+    }
+}
+
+#[test]
 fn opened_with_0_and_worked_is_opened() {
     let prepared = |failed: bool| {
         let mut t = table_in(Capacities { entries: 20, visited: 9, pending: 3, equals: 1, ..ROOM });
