@@ -22,10 +22,13 @@
  *   FAILED    1 mismatch                    sub, sup: the pair of the step that failed
  *             2 missing field               sub, sup, name: the pair, and the name that is missing
  *   REFUSED   the refusal's number          5 NO ROOM: the region; 8 BROKEN: break kind, sub, sup, name; else none
- * `count` says how many values there are; the others are 0. `steps` is 0 for every call but work.
+ *   UNOPENED  the refusal's number          as REFUSED: open or open_equal refused at the opening; no step, no word changed
+ * `count` says how many values there are; the others are 0. `steps` is 0 for every call but open, open_equal and work.
  *
  * Refusals. A call tests in the order that is listed with it and answers the first that holds. A refusal leaves every word as
- * found, save that work refused by 5 or 6 keeps its earlier steps, tells their number, and leaves the question asked.
+ * found, save that a step refused by 5 or 6, in work or in the first instalment of an opening, keeps the earlier steps, tells their
+ * number, and leaves the question asked. An opening that is itself refused answers UNOPENED, so that a 5 from it and a 5 from a step
+ * are told apart.
  *
  * Flags. Where a call takes a flag, 0 is no and any other word is yes.
  *
@@ -48,7 +51,8 @@ enum {
     SHEAFWINCH_YES = 1,
     SHEAFWINCH_MORE = 2,
     SHEAFWINCH_FAILED = 3,
-    SHEAFWINCH_REFUSED = 4
+    SHEAFWINCH_REFUSED = 4,
+    SHEAFWINCH_UNOPENED = 5
 };
 
 /* Numbers of a failure. */
@@ -156,11 +160,11 @@ typedef struct sheafwinch_capacities {
     ((size_t)27 + (size_t)7 * (entries) + (size_t)3 * (fields) + (size_t)3 * (bounds) + (size_t)2 * (visited) \
      + (size_t)2 * (pending) + (size_t)2 * (equals))
 
-/* Bytes of stack that a thread should have when it calls, enough for any call, image and argument; make_neg and work take most, where an
- * entry's spread is near 1,024. Not proved: tools/stack computes what each call takes at the worst from the frames in the archive (x86-64,
- * as the kit rattle-kit-5b compiles it) and from how deep the spread limit lets a call nest, and runs the worst cases that we know on a
- * painted stack. The figure is at least one and a half times the worst of both, so that a thread of just this size has room for
- * what the C library takes of it; the gate holds the archive to that, and runs the cases on threads of this size. */
+/* Bytes of stack that a thread should have when it calls, enough for any call, image and argument; make_neg, open, open_equal and work take
+ * most, where an entry's spread is near 1,024. Not proved: tools/stack computes what each call takes at the worst from the frames in the
+ * archive (x86-64, as the kit rattle-kit-5b compiles it) and from how deep the spread limit lets a call nest, and runs the worst cases
+ * that we know on a painted stack. The figure is at least one and a half times the worst of both, so that a thread of just this size has
+ * room for what the C library takes of it; the gate holds the archive to that, and runs the cases on threads of this size. */
 #define SHEAFWINCH_STACK 131072
 
 /* Whether the words are a well formed image. */
@@ -207,16 +211,20 @@ sheafwinch_answer sheafwinch_exit(uint32_t *image, size_t words);
 /* Sets a variable's level. Refusals: 1, 3, 2, 11. */
 sheafwinch_answer sheafwinch_set_level(uint32_t *image, size_t words, uint32_t variable, uint32_t level);
 
-/* Asks whether sub fits under sup; work then answers it. `held` is a flag: a held question is refused once a question in this table
- * has failed. Refusals: 1, 3, 8 if held, 2, 5. */
-sheafwinch_answer sheafwinch_ask(uint32_t *image, size_t words, uint32_t held, uint32_t sub, uint32_t sup);
-/* Asks whether each of two entries fits under the other. Refusals: 1, 3, 8 if held, 2, 5 (pending), 5 (equals). */
-sheafwinch_answer sheafwinch_ask_equal(uint32_t *image, size_t words, uint32_t held, uint32_t left, uint32_t right);
-/* Works the question that is asked, at most `budget` steps, and tells the steps of this call. YES and FAILED end the question; after
- * MORE it is still asked, and the next work goes on where this one stopped. Refusals: 1, 4, and at a step 5, 6, with `steps` the
- * steps before it. */
+/* Opens the question whether sub fits under sup, and works it, at most `budget` steps: the first instalment. `held` is a flag: a held
+ * question is refused once a question in this table has failed. With budget 0 the question is opened and the answer is MORE, 0 steps.
+ * YES and FAILED end the question; after MORE it is still asked, and work goes on.
+ * Refusals at the opening, answered UNOPENED: 1, 3, 8 if held, 2, 5. Then at a step, answered REFUSED: 5, 6, with `steps` the steps
+ * before it. */
+sheafwinch_answer sheafwinch_open(uint32_t *image, size_t words, uint32_t held, uint32_t sub, uint32_t sup, uint32_t budget);
+/* Opens the question whether each of two entries fits under the other, and works it in the same way.
+ * Refusals at the opening: 1, 3, 8 if held, 2, 5 (pending), 5 (equals). Then at a step: 5, 6. */
+sheafwinch_answer sheafwinch_open_equal(uint32_t *image, size_t words, uint32_t held, uint32_t left, uint32_t right, uint32_t budget);
+/* Works the question that is asked, at most `budget` steps: a later instalment. Tells the steps of this call. YES and FAILED end the
+ * question; after MORE it is still asked, and the next work goes on where this one stopped. Refusals: 1, 4, and at a step 5, 6, with
+ * `steps` the steps before it. */
 sheafwinch_answer sheafwinch_work(uint32_t *image, size_t words, uint32_t budget);
-/* Gives up the question that is asked. What its steps added stays, visited pairs too, so a later question may say yes for nothing: ask
+/* Gives up the question that is asked. What its steps added stays, visited pairs too, so a later question may say yes for nothing: open
  * no more in that image. Refusals: 1, 4. */
 sheafwinch_answer sheafwinch_abandon(uint32_t *image, size_t words);
 

@@ -6,6 +6,7 @@ from time import monotonic
 from sheafwinch import Capacities, More, Primitive, Side, Table
 
 SHAPES = 60
+BUDGET = 100  # steps of an instalment
 
 
 def make_table():
@@ -19,22 +20,21 @@ def make_table():
     return table, request, station
 
 
-def work_until(table, deadline):
-    """Works until the question is over or the deadline has passed: the answer so far, and the steps."""
-    steps = 0
-    while True:
-        instalment = table.work(100)
-        steps += instalment.steps
-        if instalment.answer != More() or monotonic() >= deadline:
-            return instalment.answer, steps
+def work_until(table, last, deadline):
+    """Works on after an instalment, until the question is over or the deadline has passed: the answer so far, and the steps."""
+    steps = last.steps
+    while last.answer == More() and monotonic() < deadline:
+        last = table.work(BUDGET)
+        steps += last.steps
+    return last.answer, steps
 
 
 def main():
     table, request, station = make_table()
     whole = table.copy()
 
-    table.ask(request, station)
-    answer, before = work_until(table, monotonic() + 0.001)
+    deadline = monotonic() + 0.001
+    answer, before = work_until(table, table.open(request, station, BUDGET), deadline)
     print(f"at the deadline: {answer}, {before} steps")
 
     stored = table.words().tobytes()
@@ -43,11 +43,10 @@ def main():
     table = Table.from_words(memoryview(stored).cast("I"))
     after = 0
     if answer == More():
-        answer, after = work_until(table, monotonic() + 60)
+        answer, after = work_until(table, table.work(BUDGET), monotonic() + 60)
     print(f"later: {answer}, {after} steps more")
 
-    whole.ask(request, station)
-    once = whole.work(0xFFFFFFFF)
+    once = whole.open(request, station, 0xFFFFFFFF)
     print(f"in one go: {once}")
     assert (answer, before + after) == (once.answer, once.steps)
     assert table == whole

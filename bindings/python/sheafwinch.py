@@ -1,13 +1,12 @@
 """Sheafwinch for Python: decides whether one shape fits under another, at once or in instalments.
 
 The calls are those of the proved library's C face, include/sheafwinch.h. Every call ends, on any argument; a refusal is raised as an
-exception and leaves every word as found. Build the library with tools/capi/build OUT and set SHEAFWINCH_LIB to the full path of OUT;
-where it is not set, libsheafwinch.so is looked for as the system does. x86-64 Linux.
+exception and leaves every word as found, but for the steps done before one that is refused. Build the library with tools/capi/build OUT
+and set SHEAFWINCH_LIB to the full path of OUT; where it is not set, libsheafwinch.so is looked for as the system does. x86-64 Linux.
 
     table = Table(Capacities(entries=8, visited=8, pending=8))
     int_, number = table.make_primitive(Primitive.INT), table.make_primitive(Primitive.NUMBER)
-    table.ask(int_, number)
-    table.work(100)                  # Instalment(answer=Yes(), steps=1)
+    table.open(int_, number, 100)    # Instalment(answer=Yes(), steps=1)
 """
 
 import ctypes
@@ -87,7 +86,7 @@ class Capacities:
         return (self.entries, self.fields, self.bounds, self.visited, self.pending, self.equals)
 
 
-# What work answers.
+# What an instalment comes to.
 
 
 @dataclass(frozen=True)
@@ -135,7 +134,7 @@ Answer = Either[Yes, More, Mismatch, MissingField]
 
 @dataclass(frozen=True)
 class Instalment:
-    """One instalment of a question: what it came to, and its steps."""
+    """One instalment of a question, that of its opening or of work: what it came to, and its steps."""
 
     answer: Answer
     steps: int
@@ -266,7 +265,7 @@ Record = Either[EntryRecord, Field, Bound, Pair]
 
 
 class Refusal(Exception):
-    """A call was refused. `number` is the refusal's number, `steps` the steps that work did before it (else 0)."""
+    """A call was refused. `number` is the refusal's number, `steps` the steps that open, open_equal or work did before it (else 0)."""
 
     number = 0
     name = ""
@@ -358,6 +357,14 @@ class BadNames(Refusal):
     number, name = 12, "BAD NAMES"
 
 
+class Unopened(Refusal):
+    """A question was refused at its opening: no step, and every word as found. `refusal` is which; number and name are its."""
+
+    def __init__(self, refusal: Refusal):
+        super().__init__()
+        self.refusal, self.number, self.name, self.args = refusal, refusal.number, refusal.name, refusal.args
+
+
 _PLAIN = {r.number: r for r in (BadTable, BadNumber, Busy, Idle, TooDeep, BadFields, BadCapacity, Level, NotAVariable, BadNames)}
 
 
@@ -369,7 +376,7 @@ class _Capacities(ctypes.Structure):
     _fields_ = [(name, ctypes.c_uint32) for name in ("entries", "fields", "bounds", "visited", "pending", "equals")]
 
 
-_DONE, _YES, _MORE, _FAILED, _REFUSED = 0, 1, 2, 3, 4
+_DONE, _YES, _MORE, _FAILED, _REFUSED, _UNOPENED = 0, 1, 2, 3, 4, 5
 
 
 def _load():
@@ -390,7 +397,7 @@ def _load():
     # Calls on an image, on names and on neither, with so many words after.
     for name, more in (("make_variable", 0), ("make_primitive", 1), ("make_list", 1), ("make_lambda", 2), ("make_named", 2),
                        ("make_neg", 1), ("make_inter", 2), ("make_union", 2), ("mark", 1), ("put_bound", 3), ("enter", 0),
-                       ("exit", 0), ("set_level", 2), ("ask", 3), ("ask_equal", 3), ("work", 1), ("abandon", 0), ("entry", 1),
+                       ("exit", 0), ("set_level", 2), ("open", 4), ("open_equal", 4), ("work", 1), ("abandon", 0), ("entry", 1),
                        ("record", 2), ("disjoint", 2)):
         calls[name] = image + [word] * more
     for name, more in (("check_names", 0), ("check_name", 1), ("count_names", 0), ("show_name", 1), ("compare_names", 2)):
@@ -421,15 +428,27 @@ def _failure(kind: int, sub: int, sup: int, name: int) -> Failure:
     return Mismatch(sub, sup) if kind == 1 else MissingField(sub, sup, name)
 
 
+def _refusal(answer: _Answer) -> Refusal:
+    if answer.number == NoRoom.number:
+        return NoRoom(Region(answer.values[0]), answer.steps)
+    if answer.number == Broken.number:
+        return Broken(_failure(*answer.values[:4]))
+    return _PLAIN[answer.number](answer.steps)
+
+
 def _told(answer: _Answer) -> _Answer:
     """The answer, or the refusal raised."""
-    if answer.kind != _REFUSED:
-        return answer
-    if answer.number == NoRoom.number:
-        raise NoRoom(Region(answer.values[0]), answer.steps)
-    if answer.number == Broken.number:
-        raise Broken(_failure(*answer.values[:4]))
-    raise _PLAIN[answer.number](answer.steps)
+    if answer.kind == _UNOPENED:
+        raise Unopened(_refusal(answer))
+    if answer.kind == _REFUSED:
+        raise _refusal(answer)
+    return answer
+
+
+def _instalment(told: _Answer) -> Instalment:
+    if told.kind == _FAILED:
+        return Instalment(_failure(told.number, *told.values[:3]), told.steps)
+    return Instalment(Yes() if told.kind == _YES else More(), told.steps)
 
 
 def _lent(words: array):
@@ -574,26 +593,26 @@ class Table:
         """Sets a variable's level. Refusals: 3, 2, 11."""
         self._call("set_level", variable, level)
 
-    def ask(self, sub: int, sup: int, held: bool = False) -> None:
-        """Asks whether sub fits under sup; work answers it. A held question is refused once a question in this table has failed.
-        Refusals: 3, 8 if held, 2, 5."""
-        self._call("ask", bool(held), sub, sup)
+    def open(self, sub: int, sup: int, budget: int, held: bool = False) -> Instalment:
+        """Opens the question whether sub fits under sup, and works it, at most `budget` steps: the first instalment. Budget 0 opens it
+        and answers More, 0 steps. After More work goes on. A held question is refused once a question in this table has failed.
+        Unopened is raised where it is refused at the opening: 3, 8 if held, 2, 5. NoRoom and TooDeep are raised at a step: they keep the
+        steps before it, tell their number in `steps`, and leave the question asked."""
+        return _instalment(self._call("open", bool(held), sub, sup, budget))
 
-    def ask_equal(self, left: int, right: int, held: bool = False) -> None:
-        """Asks whether each of two entries fits under the other. Refusals: 3, 8 if held, 2, 5."""
-        self._call("ask_equal", bool(held), left, right)
+    def open_equal(self, left: int, right: int, budget: int, held: bool = False) -> Instalment:
+        """Opens the question whether each of two entries fits under the other, and works it; all else is as for open."""
+        return _instalment(self._call("open_equal", bool(held), left, right, budget))
 
     def work(self, budget: int) -> Instalment:
-        """Works the question that is asked, at most `budget` steps. After More the next work goes on where this one stopped.
-        Refusals: 4, and at a step 5, 6: these keep the steps before it, tell their number in `steps`, and leave the question asked."""
-        told = self._call("work", budget)
-        if told.kind == _FAILED:
-            return Instalment(_failure(told.number, *told.values[:3]), told.steps)
-        return Instalment(Yes() if told.kind == _YES else More(), told.steps)
+        """Works the question that is asked, at most `budget` steps: a later instalment. After More the next work goes on where this one
+        stopped. Refusals: 4, and at a step 5, 6: these keep the steps before it, tell their number in `steps`, and leave the
+        question asked."""
+        return _instalment(self._call("work", budget))
 
     def abandon(self) -> None:
         """Gives up the question that is asked. What its steps added stays, visited pairs too, so a later question may say yes
-        for nothing: ask no more in that table. Refusals: 4."""
+        for nothing: open no more in that table. Refusals: 4."""
         self._call("abandon")
 
     def entry(self, n: int) -> Entry:

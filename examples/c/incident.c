@@ -1,15 +1,15 @@
-/* The bench table made from C, and its question B3 worked in instalments: does Number fit under Number-or-Int, in the order in
+/* The bench table made from C, and its question B3 opened and worked in instalments: does Number fit under Number-or-Int, in the order in
  * which the rules take the union's members; then one of every other call. Prints every answer. */
 #include <stdio.h>
 #include "sheafwinch.h"
 
 enum { WORDS = SHEAFWINCH_WORDS(24, 8, 8, 8, 8, 4) };
 
-static const char *kinds[] = {"done", "yes", "more", "failed", "refused"};
+static const char *kinds[] = {"done", "yes", "more", "failed", "refused", "unopened"};
 
 static void print(const char *call, sheafwinch_answer a)
 {
-    printf("%s: %s", call, a.kind <= SHEAFWINCH_REFUSED ? kinds[a.kind] : "?");
+    printf("%s: %s", call, a.kind <= SHEAFWINCH_UNOPENED ? kinds[a.kind] : "?");
     if (a.number != 0)
         printf(" %u", (unsigned)a.number);
     for (uint32_t i = 0; i < a.count && i < 8; i++)
@@ -52,20 +52,18 @@ int main(void)
     make_table(image);
     printf("check: %d\n", sheafwinch_check(image, WORDS));
 
-    print("ask (1, 6)", sheafwinch_ask(image, WORDS, 0, 1, 6));
-    print("work 0", sheafwinch_work(image, WORDS, 0));
+    print("open (1, 6), budget 0", sheafwinch_open(image, WORDS, 0, 1, 6, 0));
     print("work 2", sheafwinch_work(image, WORDS, 2));
     print("make while asked", sheafwinch_make_variable(image, WORDS));
     print("pending 0", sheafwinch_record(image, WORDS, SHEAFWINCH_PENDING, 0));
     print("work 1", sheafwinch_work(image, WORDS, 1));
     print("work again", sheafwinch_work(image, WORDS, 1));
 
-    print("ask (1, 6), held", sheafwinch_ask(image, WORDS, 1, 1, 6));
-    print("ask equal (0, 2)", sheafwinch_ask_equal(image, WORDS, 0, 0, 2));
+    print("open (1, 6), held", sheafwinch_open(image, WORDS, 1, 1, 6, 100));
+    print("open equal (0, 2), budget 0", sheafwinch_open_equal(image, WORDS, 0, 0, 2, 0));
     print("abandon", sheafwinch_abandon(image, WORDS));
     print("equals 0", sheafwinch_record(image, WORDS, SHEAFWINCH_EQUALS, 0));
-    print("ask (8, 10)", sheafwinch_ask(image, WORDS, 0, 8, 10));
-    print("work 100", sheafwinch_work(image, WORDS, 100));
+    print("open (8, 10)", sheafwinch_open(image, WORDS, 0, 8, 10, 100));
 
     print("put lower bound of 4", sheafwinch_put_bound(image, WORDS, 4, SHEAFWINCH_LOWER, 0));
     print("enter", sheafwinch_enter(image, WORDS));
@@ -87,6 +85,19 @@ int main(void)
     print("record 0 of visited", sheafwinch_record(image, WORDS, SHEAFWINCH_VISITED, 0));
     print("disjoint 0 3", sheafwinch_disjoint(image, WORDS, 0, 3));
     print("disjoint 0 1", sheafwinch_disjoint(image, WORDS, 0, 1));
+
+    /* Two NO ROOMs: of an equal question's opening, which needs two pending records; and of the second step of a question that is open,
+     * which needs a second visited record. */
+    enum { FEW = SHEAFWINCH_WORDS(4, 0, 0, 1, 1, 1) };
+    static uint32_t small[FEW];
+    print("small", sheafwinch_start(small, FEW, 0, 0, (sheafwinch_capacities){4, 0, 0, 1, 1, 1}));
+    print("0 Int", sheafwinch_make_primitive(small, FEW, SHEAFWINCH_INT));
+    print("1 Number", sheafwinch_make_primitive(small, FEW, SHEAFWINCH_NUMBER));
+    print("2 list 0", sheafwinch_make_list(small, FEW, 0));
+    print("3 list 1", sheafwinch_make_list(small, FEW, 1));
+    print("open equal (2, 3)", sheafwinch_open_equal(small, FEW, 1, 2, 3, 100));
+    print("open (2, 3)", sheafwinch_open(small, FEW, 1, 2, 3, 100));
+    print("abandon", sheafwinch_abandon(small, FEW));
 
     /* __functor, x, y */
     static const uint8_t names[] = {3, 0, 0, 0, 9, 0, 10, 0, 11, 0, '_', '_', 'f', 'u', 'n', 'c', 't', 'o', 'r', 'x', 'y'};

@@ -96,14 +96,15 @@ BINDING = "sheafwinch.py"
 
 # Those that tools/differential/README.md has on our side, planted there in bindings/rust; then more.
 PYTHON = (
-    ("after MORE the last two pending pairs change places", BINDING, "def work(", 'told = self._call("work", budget)',
+    ("after MORE the last two pending pairs change places", BINDING, "def work(", 'return _instalment(self._call("work", budget))',
      """told, a = self._call("work", budget), self._array
         end = a[21] + 2 * a[23]
         if told.kind == _MORE and a[23] > 1:
-            a[end - 4 : end - 2], a[end - 2 : end] = a[end - 2 : end], a[end - 4 : end - 2]"""),
-    ("a held question asked as a plain one", BINDING, "def ask(", "bool(held)", "False"),
+            a[end - 4 : end - 2], a[end - 2 : end] = a[end - 2 : end], a[end - 4 : end - 2]
+        return _instalment(told)"""),
+    ("a held question asked as a plain one", BINDING, "def open(", "bool(held)", "False"),
     ("budget 0 works a step", BINDING, "def work(", 'self._call("work", budget)', 'self._call("work", max(budget, 1))'),
-    ("NO ROOM(4) told as NO ROOM(5)", BINDING, "def _told(", "Region(answer.values[0])", "Region(answer.values[0] + (answer.values[0] == 4))"),
+    ("NO ROOM(4) told as NO ROOM(5)", BINDING, "def _refusal(", "Region(answer.values[0])", "Region(answer.values[0] + (answer.values[0] == 4))"),
     ("a refused make of a list raises the level", BINDING, "def make_list(", 'return self._call("make_list", element).values[0]',
      """try:
             return self._call("make_list", element).values[0]
@@ -114,5 +115,5 @@ PYTHON = (
      """self._call("abandon")
         for i in (20, *range(self._array[18], self._array[21])):
             self._array[i] = 0"""),
-    ("ask equal asks one way", BINDING, "def ask_equal(", 'self._call("ask_equal", bool(held), left, right)', 'self._call("ask", bool(held), left, right)'),
+    ("ask equal asks one way", BINDING, "def open_equal(", '"open_equal"', '"open"'),
 )

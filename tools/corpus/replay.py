@@ -67,6 +67,7 @@ class Run:
         return f"missing {told.sub} {told.sup} {self.show_name(told.name)}"
 
     def refusal(self, error):
+        error = error.refusal if isinstance(error, sw.Unopened) else error
         said = f"refused {error.number} {error.name}"
         if isinstance(error, sw.NoRoom):
             said += f" {REGIONS[error.region - 1]}"
@@ -105,9 +106,10 @@ class Run:
         said += f" names {table.names()} functor {table.words()[8]}"
         return said + "".join(f" {name} {table.count(i)}/{table.capacity(i)}" for i, name in enumerate(REGIONS, 1))
 
-    def work(self, budget):
+    def instalment(self, call, *arguments):
+        """What an opening or work answers. A refusal at the opening, or of work while idle, is the line's."""
         try:
-            done = self.table.work(budget)
+            done = call(*arguments)
         except (sw.NoRoom, sw.TooDeep) as error:
             return f"{self.refusal(error)} steps {error.steps}"
         if isinstance(done.answer, (sw.Yes, sw.More)):
@@ -117,12 +119,12 @@ class Run:
             said += f" [{self.shape(done.answer.sub)}] [{self.shape(done.answer.sup)}]"
         return said
 
-    def ask(self, verb, words, held, stays):
-        call = self.table.ask_equal if verb == "equal" else self.table.ask
-        call(int(words[0]), int(words[1]), held)
+    def open(self, verb, words, held, stays):
+        """A line `ask` or `equal`: one call. Where the question stays open, no step is worked."""
+        call = self.table.open_equal if verb == "equal" else self.table.open
+        said = self.instalment(call, int(words[0]), int(words[1]), 0 if stays else self.limit, held)
         if stays:
-            return "asked"
-        said = self.work(self.limit)
+            return "asked" if said == "more steps 0" else said
         if said.startswith("more"):
             self.table.abandon()
         return said
@@ -139,7 +141,7 @@ class Run:
         verb, *words = words[held + stays :]
         table = self.table
         if verb in ("ask", "equal"):
-            return [self.ask(verb, words, held, stays)]
+            return [self.open(verb, words, held, stays)]
         if verb == "attr":
             return self.made(self.attr(words))
         if verb == "names":
@@ -165,7 +167,7 @@ class Run:
             self.begin(room)
             return [f"started words {room.words()}"]
         if verb == "work":
-            return [self.work(numbers[0] if numbers else ALL)]
+            return [self.instalment(table.work, numbers[0] if numbers else ALL)]
         if verb == "abandon":
             table.abandon()
             return ["abandoned"]

@@ -117,14 +117,14 @@ fn same(now: &[u32], due: &[u32]) -> Result<(), String> {
 }
 
 fn told(answer: &Answer, which: Which) -> String {
-    let mut told = ["done", "yes", "more", "failed", "refused"][answer.kind as usize].to_string();
+    let mut told = ["done", "yes", "more", "failed", "refused", "unopened"][answer.kind as usize].to_string();
     if answer.kind >= raw::FAILED {
         told += &format!(" {}", answer.number);
     }
     for value in &answer.values[..answer.count as usize] {
         told += &format!(" {value}");
     }
-    if which == Which::Work {
+    if matches!(which, Which::Open | Which::OpenEqual | Which::Work) {
         told += &format!(" steps {}", answer.steps);
     }
     told

@@ -15,7 +15,7 @@ enum { ARGUMENTS_MOST = 8, ANSWER_ROOM = 256, PATH_ROOM = 4096, WORDS_A_LINE = 1
 
 enum call {
     CHECK, START, MAKE_VARIABLE, MAKE_PRIMITIVE, MAKE_LIST, MAKE_LAMBDA, MAKE_ATTRSET, MAKE_NAMED, MAKE_NEG, MAKE_INTER, MAKE_UNION,
-    MARK, PUT_BOUND, ENTER, EXIT, SET_LEVEL, ASK, ASK_EQUAL, WORK, ABANDON, ENTRY, RECORD, DISJOINT, CHECK_NAMES, CHECK_NAME,
+    MARK, PUT_BOUND, ENTER, EXIT, SET_LEVEL, OPEN, OPEN_EQUAL, WORK, ABANDON, ENTRY, RECORD, DISJOINT, CHECK_NAMES, CHECK_NAME,
     COUNT_NAMES, SHOW_NAME, COMPARE_NAMES, FIND_NAME, RESOLVE, FROM_LEFT, AT_ONCE, CALLS
 };
 
@@ -41,8 +41,8 @@ static const struct {
     [ENTER] = {"enter", 0, false},
     [EXIT] = {"exit", 0, false},
     [SET_LEVEL] = {"set_level", 2, false},
-    [ASK] = {"ask", 3, false},
-    [ASK_EQUAL] = {"ask_equal", 3, false},
+    [OPEN] = {"open", 4, false},
+    [OPEN_EQUAL] = {"open_equal", 4, false},
     [WORK] = {"work", 1, false},
     [ABANDON] = {"abandon", 0, false},
     [ENTRY] = {"entry", 1, false},
@@ -280,8 +280,8 @@ static sheafwinch_answer make_call(const struct stored *s, enum call call, const
     case ENTER: return sheafwinch_enter(image, words);
     case EXIT: return sheafwinch_exit(image, words);
     case SET_LEVEL: return sheafwinch_set_level(image, words, a[0], a[1]);
-    case ASK: return sheafwinch_ask(image, words, a[0], a[1], a[2]);
-    case ASK_EQUAL: return sheafwinch_ask_equal(image, words, a[0], a[1], a[2]);
+    case OPEN: return sheafwinch_open(image, words, a[0], a[1], a[2], a[3]);
+    case OPEN_EQUAL: return sheafwinch_open_equal(image, words, a[0], a[1], a[2], a[3]);
     case WORK: return sheafwinch_work(image, words, a[0]);
     case ABANDON: return sheafwinch_abandon(image, words);
     case ENTRY: return sheafwinch_entry(image, words, a[0]);
@@ -309,17 +309,17 @@ static sheafwinch_answer make_call(const struct stored *s, enum call call, const
 }
 
 /* The answer in words; what is to be 0 and is not is told too. */
-static void tell(char out[ANSWER_ROOM], const sheafwinch_answer *a, bool work)
+static void tell(char out[ANSWER_ROOM], const sheafwinch_answer *a, bool instalment)
 {
-    static const char *kinds[] = {"done", "yes", "more", "failed", "refused"};
-    int at = a->kind <= SHEAFWINCH_REFUSED ? snprintf(out, ANSWER_ROOM, "%s", kinds[a->kind])
-                                           : snprintf(out, ANSWER_ROOM, "kind %u", (unsigned)a->kind);
+    static const char *kinds[] = {"done", "yes", "more", "failed", "refused", "unopened"};
+    int at = a->kind <= SHEAFWINCH_UNOPENED ? snprintf(out, ANSWER_ROOM, "%s", kinds[a->kind])
+                                            : snprintf(out, ANSWER_ROOM, "kind %u", (unsigned)a->kind);
     if (a->kind >= SHEAFWINCH_FAILED || a->number != 0)
         at += snprintf(out + at, (size_t)(ANSWER_ROOM - at), " %u", (unsigned)a->number);
     for (uint32_t i = 0; i < 8; i++)
         if (i < a->count || a->values[i] != 0)
             at += snprintf(out + at, (size_t)(ANSWER_ROOM - at), "%s%u", i < a->count ? " " : " unused ", (unsigned)a->values[i]);
-    if (work || a->steps != 0)
+    if (instalment || a->steps != 0)
         snprintf(out + at, (size_t)(ANSWER_ROOM - at), " steps %u", (unsigned)a->steps);
 }
 
@@ -333,7 +333,8 @@ static bool same_words(const struct stored *s, const struct words *due, const ch
     return true;
 }
 
-/* Makes a call and holds it to its stored answer. A refused call and a read leave every word, but for work that did steps. */
+/* Makes a call and holds it to its stored answer. A read, a refusal at an opening, and a refused call leave every word; but one refused
+ * at a step keeps the steps before it, and an opening the question. */
 static bool run_call(struct stored *s, enum call call, const struct line *l)
 {
     static struct words before;
@@ -346,11 +347,13 @@ static bool run_call(struct stored *s, enum call call, const struct line *l)
                 return wrong(s, "%u is no byte", (unsigned)l->further.at[i]);
     copy(&before, &s->now);
     sheafwinch_answer answer = make_call(s, call, l);
-    tell(told, &answer, call == WORK);
+    bool opens = call == OPEN || call == OPEN_EQUAL;
+    tell(told, &answer, opens || call == WORK);
     if (l->answer != NULL ? strcmp(told, l->answer) != 0 : !s->make)
         return wrong(s, "%s answers '%s', stored is '%s'", l->verb, told, l->answer == NULL ? "" : l->answer);
     bool reads = call == CHECK || call >= ENTRY;
-    if ((reads || answer.kind == SHEAFWINCH_REFUSED) && answer.steps == 0 && !same_words(s, &before, "before the call it"))
+    bool refused = answer.kind == SHEAFWINCH_REFUSED && answer.steps == 0 && !opens;
+    if ((reads || refused || answer.kind == SHEAFWINCH_UNOPENED) && !same_words(s, &before, "before the call it"))
         return false;
     if (s->make && l->answer == NULL)
         say(&s->said, " -> %s", told);

@@ -15,6 +15,7 @@ import sheafwinch as sw
 
 KINDS = (sw.Variable, sw.PrimitiveEntry, sw.List, sw.Lambda, sw.Attrset, sw.Named, sw.Neg, sw.Inter, sw.Union)
 READS = ("entry", "record", "disjoint")
+OPENS = ("open", "open_equal")
 passed_over = 0
 
 
@@ -34,6 +35,8 @@ def entry_values(entry):
 
 
 def refusal(error):
+    if isinstance(error, sw.Unopened):
+        return refusal(error.refusal).replace("refused", "unopened")
     values = [int(error.region)] if isinstance(error, sw.NoRoom) else []
     if isinstance(error, sw.Broken):
         values = failure(error.failure)
@@ -125,10 +128,14 @@ class Stored:
                 raise CannotSay
             fields = [sw.Field(*further[i : i + 2], bool(further[i + 2])) for i in range(0, len(further), 3)]
             return done(self.loaded().make_attrset(fields, words[0] != 0, words[2] if words[1] else None))
-        table = self.loaded()
-        if name in ("ask", "ask_equal"):
-            held, left, right = words
-            return done(getattr(table, name)(left, right, held != 0))
+        try:
+            table = self.loaded()
+        except sw.BadTable as error:
+            # No table is there to open a question in: refused before it, as at the opening.
+            raise sw.Unopened(error) if name in OPENS else error
+        if name in OPENS:
+            held, left, right, budget = words
+            return worked(getattr(table, name)(left, right, budget, held != 0))
         told = getattr(table, name)(*words)
         if name == "work":
             return worked(told)
@@ -156,11 +163,13 @@ class Stored:
             return
         except sw.Refusal as error:
             told, steps = refusal(error), error.steps
-            if name == "work":
+            if name == "work" or name in OPENS:
                 told += f" steps {steps}"
         if told != answer:
             raise self.wrong(f"{name} answers '{told}', stored is '{answer}'")
-        if (told.startswith("refused") or name in READS) and steps == 0:
+        # what is refused at a step keeps the steps before it, and an opening the question
+        refused = told.startswith("refused") and steps == 0 and name not in OPENS
+        if refused or told.startswith("unopened") or name in READS:
             self.same(before, "before the call it")
 
     def same(self, due, name):

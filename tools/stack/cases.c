@@ -46,8 +46,8 @@ CALL(put_bound, image, words, a, SHEAFWINCH_LOWER, b)
 CALL(enter, image, words)
 CALL(exit, image, words)
 CALL(set_level, image, words, a, b)
-CALL(ask, image, words, 1, a, b)
-CALL(ask_equal, image, words, 1, a, b)
+CALL(open, image, words, 1, a, b, STEPS)
+CALL(open_equal, image, words, 1, a, b, STEPS)
 CALL(work, image, words, STEPS)
 CALL(abandon, image, words)
 CALL(entry, image, words, a)
@@ -99,7 +99,7 @@ static uint32_t named(uint32_t x) { return done(sheafwinch_make_named(image, wor
 static uint32_t neg(uint32_t x) { return done(sheafwinch_make_neg(image, words, x)); }
 static uint32_t inter(uint32_t x, uint32_t y) { return done(sheafwinch_make_inter(image, words, x, y)); }
 static uint32_t unite(uint32_t x, uint32_t y) { return done(sheafwinch_make_union(image, words, x, y)); }
-static void ask(uint32_t sub, uint32_t sup) { done(sheafwinch_ask(image, words, 1, sub, sup)); }
+static void question(uint32_t sub, uint32_t sup) { a = sub, b = sup; }
 
 /* Fields of the names from `from` to `to` - 1, all of type x. */
 static void list_fields(uint32_t from, uint32_t to, uint32_t x)
@@ -155,12 +155,6 @@ static void deep(const char *pattern)
     done(sheafwinch_enter(image, words));
 }
 
-static void deep_asked(const char *pattern)
-{
-    deep(pattern);
-    ask(a, b);
-}
-
 /* Two closed attrsets that have all names but one, each another. */
 static void wide(const char *pattern)
 {
@@ -202,19 +196,19 @@ static void negation_made(const char *pattern)
     a = chain(pattern, n, n, SPREAD_MOST);
 }
 
-/* Asked: an inter of which one side is a chain to a variable. */
+/* Questions, of a and b. An inter of which one side is a chain to a variable. */
 static void variable_left(const char *pattern)
 {
     table(DEEP, 0, VISITED);
     uint32_t s = string();
-    ask(inter(chain(pattern, variable(), s, SPREAD_MOST - 2), s), string());
+    question(inter(chain(pattern, variable(), s, SPREAD_MOST - 2), s), string());
 }
 
 static void variable_right(const char *pattern)
 {
     table(DEEP, 0, VISITED);
     uint32_t s = string();
-    ask(inter(s, chain(pattern, variable(), s, SPREAD_MOST - 2)), string());
+    question(inter(s, chain(pattern, variable(), s, SPREAD_MOST - 2)), string());
 }
 
 /* The negation of an inter's other side, looked for in a chain on the right that has none (and the new union is too deep), or has it at
@@ -223,14 +217,14 @@ static void member_missing(const char *pattern)
 {
     table(DEEP, 0, VISITED);
     uint32_t s = string();
-    ask(inter(variable(), s), unite(chain(pattern, string(), s, SPREAD_MOST - 2), s));
+    question(inter(variable(), s), unite(chain(pattern, string(), s, SPREAD_MOST - 2), s));
 }
 
 static void member_found(const char *pattern)
 {
     table(DEEP, 0, VISITED);
     uint32_t s = string();
-    ask(inter(variable(), s), unite(chain(pattern, neg(s), s, SPREAD_MOST - 2), s));
+    question(inter(variable(), s), unite(chain(pattern, neg(s), s, SPREAD_MOST - 2), s));
 }
 
 /* The other side a chain, each member of it tested against the right: its negation is too deep; finds no entry free; is made, and
@@ -239,21 +233,21 @@ static void other_too_deep(const char *pattern)
 {
     table(DEEP, 256, VISITED);
     uint32_t s = string(), x = attrset(0, 64, s, 1);
-    ask(inter(variable(), chain(pattern, x, attrset(0, 64, s, 1), SPREAD_MOST - 2)), attrset(0, 64, s, 1));
+    question(inter(variable(), chain(pattern, x, attrset(0, 64, s, 1), SPREAD_MOST - 2)), attrset(0, 64, s, 1));
 }
 
 static void other_full(const char *pattern)
 {
     table(4 + (SPREAD_MOST - 3) / 2, 0, VISITED);
     uint32_t s = string();
-    ask(inter(variable(), chain(pattern, s, s, SPREAD_MOST - 2)), string());
+    question(inter(variable(), chain(pattern, s, s, SPREAD_MOST - 2)), string());
 }
 
 static void other_of(const char *pattern, uint32_t visited)
 {
     table(DEEP, 0, visited);
     uint32_t n = neg(string());
-    ask(inter(variable(), chain(pattern, n, n, SPREAD_MOST - 2)), string());
+    question(inter(variable(), chain(pattern, n, n, SPREAD_MOST - 2)), string());
 }
 
 static void other_made(const char *pattern) { other_of(pattern, VISITED); }
@@ -263,7 +257,7 @@ static void other_disjoint(const char *pattern)
 {
     table(DEEP, 256, VISITED);
     uint32_t s = string(), x = attrset(0, 64, s, 1);
-    ask(inter(variable(), chain(pattern, x, attrset(0, 32, s, 1), SPREAD_MOST - 2)), s);
+    question(inter(variable(), chain(pattern, x, attrset(0, 32, s, 1), SPREAD_MOST - 2)), s);
 }
 
 /* A chain under a chain, an attrset under one, a union of attrsets, a lambda, or a variable that has bounds. */
@@ -271,7 +265,7 @@ static void both_deep(const char *pattern)
 {
     table(2 * DEEP, 0, VISITED);
     uint32_t s = string(), t = string();
-    ask(chain(pattern, s, t, SPREAD_MOST), chain(pattern, t, s, SPREAD_MOST));
+    question(chain(pattern, s, t, SPREAD_MOST), chain(pattern, t, s, SPREAD_MOST));
 }
 
 static void fields_under(const char *pattern)
@@ -279,19 +273,18 @@ static void fields_under(const char *pattern)
     (void)pattern;
     table(16, 2 * WIDE, 16);
     uint32_t x = attrset(0, WIDE, string(), 1);
-    ask(x, attrset(0, WIDE, string(), 1));
+    question(x, attrset(0, WIDE, string(), 1));
 }
 
 static void field_missing(const char *pattern)
 {
     wide(pattern);
-    ask(a, b);
 }
 
 static void union_right(const char *pattern)
 {
     wide(pattern);
-    ask(a, unite(b, attrset(0, 0, a, 0)));
+    question(a, unite(b, attrset(0, 0, a, 0)));
 }
 
 static void functor(const char *pattern)
@@ -299,7 +292,7 @@ static void functor(const char *pattern)
     (void)pattern;
     table(16, WIDE, 16);
     uint32_t v = variable();
-    ask(attrset(0, WIDE, v, 1), lambda(v, string()));
+    question(attrset(0, WIDE, v, 1), lambda(v, string()));
 }
 
 static void bounds(const char *pattern)
@@ -310,20 +303,27 @@ static void bounds(const char *pattern)
     for (int i = 0; i < BOUNDS / 3; i++)
         done(sheafwinch_put_bound(image, words, v, SHEAFWINCH_LOWER, string()));
     done(sheafwinch_mark(image, words, v));
-    ask(v, variable());
+    question(v, variable());
 }
 
-/* Every case, with what it must answer. ALL has every kind that nests. */
+/* Every case, with what it must answer. ALL has every kind that nests. ASKED: the question of a and b is opened before the call, and no
+ * step worked. QUESTION: opened and worked in one call; opened before, and worked. FIRST: the same, and opened both ways, where the first
+ * pair settles the answer. */
 #define ALL "n-iUnIu"
 #define DONE SHEAFWINCH_DONE, 0
 #define YES SHEAFWINCH_YES, 0
 #define REFUSED(number) SHEAFWINCH_REFUSED, SHEAFWINCH_##number
 #define FAILED(number) SHEAFWINCH_FAILED, SHEAFWINCH_##number
-#define CASE(prepare, pattern, call, answers) {"sheafwinch_" #call, #prepare, prepare, pattern, run_##call, answers}
+#define ROW(prepare, pattern, asked, call, ...) {"sheafwinch_" #call, #prepare, prepare, pattern, asked, run_##call, __VA_ARGS__}
+#define CASE(prepare, pattern, call, ...) ROW(prepare, pattern, 0, call, __VA_ARGS__)
+#define ASKED(prepare, pattern, call, ...) ROW(prepare, pattern, 1, call, __VA_ARGS__)
+#define QUESTION(prepare, pattern, ...) CASE(prepare, pattern, open, __VA_ARGS__), ASKED(prepare, pattern, work, __VA_ARGS__)
+#define FIRST(prepare, pattern, ...) QUESTION(prepare, pattern, __VA_ARGS__), CASE(prepare, pattern, open_equal, __VA_ARGS__)
 static const struct worst {
     const char *call, *name;
     void (*prepare)(const char *pattern);
     const char *pattern;
+    int asked;
     void (*run)(void);
     uint32_t kind, number;
 } cases[] = {
@@ -354,45 +354,44 @@ static const struct worst {
     CASE(deep, ALL, enter, DONE),
     CASE(deep, ALL, exit, DONE),
     CASE(deep, ALL, set_level, DONE),
-    CASE(deep, ALL, ask, DONE),
-    CASE(deep, ALL, ask_equal, DONE),
-    CASE(deep_asked, ALL, work, YES),
-    CASE(variable_left, "n", work, YES),
-    CASE(variable_left, "i", work, YES),
-    CASE(variable_left, "I", work, YES),
-    CASE(variable_left, "nI", work, YES),
-    CASE(variable_right, "n", work, YES),
-    CASE(variable_right, "i", work, YES),
-    CASE(variable_right, "I", work, YES),
-    CASE(variable_right, "ni", work, YES),
-    CASE(member_missing, "n", work, REFUSED(TOO_DEEP)),
-    CASE(member_missing, "u", work, REFUSED(TOO_DEEP)),
-    CASE(member_missing, "U", work, REFUSED(TOO_DEEP)),
-    CASE(member_missing, "nU", work, REFUSED(TOO_DEEP)),
-    CASE(member_found, "n", work, YES),
-    CASE(member_found, "u", work, YES),
-    CASE(member_found, "U", work, YES),
-    CASE(other_too_deep, "i", work, REFUSED(TOO_DEEP)),
-    CASE(other_too_deep, "I", work, REFUSED(TOO_DEEP)),
-    CASE(other_full, "i", work, REFUSED(NO_ROOM)),
-    CASE(other_full, "u", work, REFUSED(NO_ROOM)),
-    CASE(other_made, "i", work, YES),
-    CASE(other_made, "U", work, YES),
-    CASE(other_undone, "i", work, REFUSED(NO_ROOM)),
-    CASE(other_undone, "iU", work, REFUSED(NO_ROOM)),
-    CASE(other_disjoint, "i", work, FAILED(MISMATCH)),
-    CASE(other_disjoint, "I", work, FAILED(MISMATCH)),
-    CASE(both_deep, "n", work, YES),
-    CASE(both_deep, "n-", work, YES),
-    CASE(both_deep, "i", work, YES),
-    CASE(both_deep, "u", work, YES),
-    CASE(both_deep, ALL, work, FAILED(MISMATCH)),
-    CASE(fields_under, "", work, YES),
-    CASE(field_missing, "", work, FAILED(MISSING_FIELD)),
-    CASE(union_right, "", work, FAILED(MISMATCH)),
-    CASE(functor, "", work, YES),
-    CASE(bounds, "", work, YES),
-    CASE(deep_asked, ALL, abandon, DONE),
+    QUESTION(deep, ALL, YES),
+    CASE(deep, ALL, open_equal, YES),
+    QUESTION(variable_left, "n", YES),
+    QUESTION(variable_left, "i", YES),
+    QUESTION(variable_left, "I", YES),
+    QUESTION(variable_left, "nI", YES),
+    QUESTION(variable_right, "n", YES),
+    QUESTION(variable_right, "i", YES),
+    QUESTION(variable_right, "I", YES),
+    QUESTION(variable_right, "ni", YES),
+    FIRST(member_missing, "n", REFUSED(TOO_DEEP)),
+    FIRST(member_missing, "u", REFUSED(TOO_DEEP)),
+    FIRST(member_missing, "U", REFUSED(TOO_DEEP)),
+    FIRST(member_missing, "nU", REFUSED(TOO_DEEP)),
+    QUESTION(member_found, "n", YES),
+    QUESTION(member_found, "u", YES),
+    QUESTION(member_found, "U", YES),
+    FIRST(other_too_deep, "i", REFUSED(TOO_DEEP)),
+    FIRST(other_too_deep, "I", REFUSED(TOO_DEEP)),
+    FIRST(other_full, "i", REFUSED(NO_ROOM)),
+    FIRST(other_full, "u", REFUSED(NO_ROOM)),
+    QUESTION(other_made, "i", YES),
+    QUESTION(other_made, "U", YES),
+    FIRST(other_undone, "i", REFUSED(NO_ROOM)),
+    FIRST(other_undone, "iU", REFUSED(NO_ROOM)),
+    FIRST(other_disjoint, "i", FAILED(MISMATCH)),
+    FIRST(other_disjoint, "I", FAILED(MISMATCH)),
+    QUESTION(both_deep, "n", YES),
+    QUESTION(both_deep, "n-", YES),
+    QUESTION(both_deep, "i", YES),
+    QUESTION(both_deep, "u", YES),
+    FIRST(both_deep, ALL, FAILED(MISMATCH)),
+    QUESTION(fields_under, "", YES),
+    FIRST(field_missing, "", FAILED(MISSING_FIELD)),
+    FIRST(union_right, "", FAILED(MISMATCH)),
+    QUESTION(functor, "", YES),
+    QUESTION(bounds, "", YES),
+    ASKED(deep, ALL, abandon, DONE),
     CASE(deep, ALL, entry, DONE),
     CASE(wide, "", entry, DONE),
     CASE(deep, ALL, record, DONE),
@@ -413,6 +412,10 @@ static void prepare(const struct worst *this)
 {
     preparing = this->name;
     this->prepare(this->pattern);
+    if (this->asked && sheafwinch_open(image, words, 1, a, b, 0).kind != SHEAFWINCH_MORE) {
+        printf("cases: %s cannot be prepared: its question is not opened\n", preparing);
+        exit(2);
+    }
 }
 
 /* Whether the call answered what the case is there for. */

@@ -1,7 +1,7 @@
 //! A question worked in instalments until a deadline, its words stored, and continued later; then the same question in one go.
 //! Answer, steps and every word are the same.
 
-use sheafwinch::{Answer, Capacities, Primitive, Refusal, Side, Table};
+use sheafwinch::{Answer, Capacities, Instalment, Primitive, Refusal, Side, Table};
 use std::time::{Duration, Instant};
 
 const SHAPES: u32 = 60;
@@ -23,24 +23,26 @@ fn table() -> Result<(Table, u32, u32), Refusal> {
     Ok((table, request, station))
 }
 
-/// Works until the question is over or the deadline has passed: the answer so far, and the steps.
-fn work_until(table: &mut Table, deadline: Instant) -> (Answer, u32) {
-    let mut steps = 0;
-    loop {
-        let instalment = table.work(100);
-        steps += instalment.steps;
-        if instalment.answer != Answer::More || Instant::now() >= deadline {
-            return (instalment.answer, steps);
-        }
+/// Steps of an instalment.
+const BUDGET: u32 = 100;
+
+/// Works on after an instalment, until the question is over or the deadline has passed: the answer so far, and the steps.
+fn work_until(table: &mut Table, mut last: Instalment, deadline: Instant) -> (Answer, u32) {
+    let mut steps = last.steps;
+    while last.answer == Answer::More && Instant::now() < deadline {
+        last = table.work(BUDGET);
+        steps += last.steps;
     }
+    (last.answer, steps)
 }
 
 fn main() -> Result<(), Refusal> {
     let (mut table, request, station) = table()?;
     let mut whole = table.clone();
 
-    table.ask(request, station)?;
-    let (answer, before) = work_until(&mut table, Instant::now() + Duration::from_millis(1));
+    let deadline = Instant::now() + Duration::from_millis(1);
+    let first = table.open(request, station, BUDGET)?;
+    let (answer, before) = work_until(&mut table, first, deadline);
     println!("at the deadline: {answer}, {before} steps");
 
     let stored = table.into_words();
@@ -48,13 +50,15 @@ fn main() -> Result<(), Refusal> {
 
     let mut table = Table::from_words(stored)?;
     let (answer, after) = match answer {
-        Answer::More => work_until(&mut table, Instant::now() + Duration::from_secs(60)),
+        Answer::More => {
+            let next = table.work(BUDGET);
+            work_until(&mut table, next, Instant::now() + Duration::from_secs(60))
+        }
         over => (over, 0),
     };
     println!("later: {answer}, {after} steps more");
 
-    whole.ask(request, station)?;
-    let once = whole.work(u32::MAX);
+    let once = whole.open(request, station, u32::MAX)?;
     println!("in one go: {once}");
     assert_eq!((answer, before + after), (once.answer, once.steps));
     assert_eq!(table, whole);

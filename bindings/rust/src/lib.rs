@@ -1,5 +1,6 @@
 //! Sheafwinch for Rust: decides whether one shape fits under another, at once or in instalments. The calls are those of the proved
-//! library's C face, `include/sheafwinch.h`; every call ends, on any argument, and a refusal leaves every word as found.
+//! library's C face, `include/sheafwinch.h`; every call ends, on any argument, and a refusal leaves every word as found, but for the
+//! steps done before one that is refused.
 //!
 //! ```
 //! use sheafwinch::{Answer, Capacities, Failure, Primitive, Table};
@@ -8,10 +9,8 @@
 //! let mut table = Table::start(0, None, room)?;
 //! let int = table.make_primitive(Primitive::Int)?;
 //! let number = table.make_primitive(Primitive::Number)?;
-//! table.ask(int, number)?;
-//! assert_eq!(table.work(100).answer, Answer::Yes);
-//! table.ask(number, int)?;
-//! assert_eq!(table.work(100).answer, Answer::Failed(Failure::Mismatch { sub: number, sup: int }));
+//! assert_eq!(table.open(int, number, 100)?.answer, Answer::Yes);
+//! assert_eq!(table.open(number, int, 100)?.answer, Answer::Failed(Failure::Mismatch { sub: number, sup: int }));
 //! # Ok::<(), sheafwinch::Refusal>(())
 //! ```
 //!
@@ -224,7 +223,8 @@ impl fmt::Display for Failure {
 
 impl Error for Failure {}
 
-/// Why a call was refused. The table's words are as they were, save after [`Table::work`], which says what it keeps.
+/// Why a call was refused. As an `Err` it says that the table's words are as they were. A step that is refused is no `Err`: it is
+/// told in an [`Instalment`], with the steps before it, which are kept.
 #[derive(Clone, Copy, Debug, PartialEq, Eq, Hash)]
 pub enum Refusal {
     /// 1: the words are no well formed image. Only [`Table::from_words`] gives it.
@@ -313,7 +313,7 @@ impl fmt::Display for Refusal {
 
 impl Error for Refusal {}
 
-/// What work answers.
+/// What an instalment comes to.
 #[derive(Clone, Copy, Debug, PartialEq, Eq, Hash)]
 pub enum Answer {
     /// It fits; the question is over.
@@ -322,7 +322,7 @@ pub enum Answer {
     More,
     /// It does not fit; the question is over.
     Failed(Failure),
-    /// Work stopped before a step, by 5 or 6, and the question is still asked; or no question was asked (4).
+    /// It stopped before a step, by 5 or 6, and the question is still asked; or work, and no question was asked (4).
     Refused(Refusal),
 }
 
@@ -337,7 +337,7 @@ impl fmt::Display for Answer {
     }
 }
 
-/// One instalment of a question.
+/// One instalment of a question: the first is that of its opening, the later ones are those of [`Table::work`].
 #[derive(Clone, Copy, Debug, PartialEq, Eq, Hash)]
 pub struct Instalment {
     /// What it came to.
@@ -654,42 +654,84 @@ impl Table {
         done(unsafe { raw::sheafwinch_set_level(self.words.as_mut_ptr(), self.words.len(), variable, level) })
     }
 
-    /// Asks whether sub fits under sup; [`Table::work`] answers it. Refusals: 3, 2, 5.
-    pub fn ask(&mut self, sub: u32, sup: u32) -> Result<(), Refusal> {
-        done(unsafe { raw::sheafwinch_ask(self.words.as_mut_ptr(), self.words.len(), 0, sub, sup) })
+    /// Opens the question whether sub fits under sup, and works it, at most `budget` steps: the first instalment. Budget 0 opens it
+    /// and answers MORE, 0 steps. After MORE [`Table::work`] goes on.
+    ///
+    /// `Err` is a refusal at the opening: 3, 2, 5. No question is asked by it, and every word is as it was. A step of the instalment
+    /// that is refused, by 5 or 6, is `Ok` with [`Answer::Refused`]: the steps before it are kept, and the question is asked.
+    ///
+    /// ```
+    /// use sheafwinch::{Answer, Capacities, Instalment, Primitive, Refusal, Region, Table};
+    ///
+    /// let room = Capacities { entries: 4, visited: 1, pending: 1, ..Capacities::default() };
+    /// let mut table = Table::start(0, None, room)?;
+    /// let int = table.make_primitive(Primitive::Int)?;
+    /// let ints = table.make_list(int)?;
+    /// let number = table.make_primitive(Primitive::Number)?;
+    /// let numbers = table.make_list(number)?;
+    ///
+    /// // Refused at the opening: nothing happened.
+    /// assert_eq!(table.open(ints, 4, 100), Err(Refusal::BadNumber));
+    /// assert!(!table.asked());
+    /// // Refused at its second step: the first is kept.
+    /// let no_room = Answer::Refused(Refusal::NoRoom(Region::Visited));
+    /// assert_eq!(table.open(ints, numbers, 100), Ok(Instalment { answer: no_room, steps: 1 }));
+    /// assert!(table.asked());
+    /// # Ok::<(), Refusal>(())
+    /// ```
+    pub fn open(&mut self, sub: u32, sup: u32, budget: u32) -> Result<Instalment, Refusal> {
+        opened(unsafe { raw::sheafwinch_open(self.words.as_mut_ptr(), self.words.len(), 0, sub, sup, budget) })
     }
 
-    /// Asks the same, refused once a question in this table has failed. Refusals: 3, 8, 2, 5.
-    pub fn ask_held(&mut self, sub: u32, sup: u32) -> Result<(), Refusal> {
-        done(unsafe { raw::sheafwinch_ask(self.words.as_mut_ptr(), self.words.len(), 1, sub, sup) })
+    /// Opens the same, held: refused once a question in this table has failed. `Err`: 3, 8, 2, 5.
+    ///
+    /// ```
+    /// use sheafwinch::{Answer, Capacities, Failure, Primitive, Refusal, Table};
+    ///
+    /// let room = Capacities { entries: 2, visited: 2, pending: 1, ..Capacities::default() };
+    /// let mut table = Table::start(0, None, room)?;
+    /// let int = table.make_primitive(Primitive::Int)?;
+    /// let number = table.make_primitive(Primitive::Number)?;
+    /// let mismatch = Failure::Mismatch { sub: number, sup: int };
+    /// assert_eq!(table.open_held(number, int, 100)?.answer, Answer::Failed(mismatch));
+    /// // Resent, it is not worked, and told what failed before.
+    /// assert_eq!(table.open_held(number, int, 100), Err(Refusal::Broken(mismatch)));
+    /// # Ok::<(), Refusal>(())
+    /// ```
+    pub fn open_held(&mut self, sub: u32, sup: u32, budget: u32) -> Result<Instalment, Refusal> {
+        opened(unsafe { raw::sheafwinch_open(self.words.as_mut_ptr(), self.words.len(), 1, sub, sup, budget) })
     }
 
-    /// Asks whether each of two entries fits under the other. Refusals: 3, 2, 5.
-    pub fn ask_equal(&mut self, left: u32, right: u32) -> Result<(), Refusal> {
-        done(unsafe { raw::sheafwinch_ask_equal(self.words.as_mut_ptr(), self.words.len(), 0, left, right) })
+    /// Opens the question whether each of two entries fits under the other, and works it as [`Table::open`] does. `Err`: 3, 2, 5.
+    ///
+    /// ```
+    /// use sheafwinch::{Answer, Capacities, Instalment, Primitive, Table};
+    ///
+    /// let room = Capacities { entries: 2, visited: 2, pending: 2, equals: 1, ..Capacities::default() };
+    /// let mut table = Table::start(0, None, room)?;
+    /// let text = table.make_primitive(Primitive::String)?;
+    /// let labelled = table.make_named(text, 12)?;
+    /// assert_eq!(table.open_equal(text, labelled, 1), Ok(Instalment { answer: Answer::More, steps: 1 }));
+    /// assert_eq!(table.work(100), Instalment { answer: Answer::Yes, steps: 3 });
+    /// # Ok::<(), sheafwinch::Refusal>(())
+    /// ```
+    pub fn open_equal(&mut self, left: u32, right: u32, budget: u32) -> Result<Instalment, Refusal> {
+        opened(unsafe { raw::sheafwinch_open_equal(self.words.as_mut_ptr(), self.words.len(), 0, left, right, budget) })
     }
 
-    /// Asks the same, refused once a question in this table has failed. Refusals: 3, 8, 2, 5.
-    pub fn ask_equal_held(&mut self, left: u32, right: u32) -> Result<(), Refusal> {
-        done(unsafe { raw::sheafwinch_ask_equal(self.words.as_mut_ptr(), self.words.len(), 1, left, right) })
+    /// Opens the same, held: refused once a question in this table has failed. `Err`: 3, 8, 2, 5.
+    pub fn open_equal_held(&mut self, left: u32, right: u32, budget: u32) -> Result<Instalment, Refusal> {
+        opened(unsafe { raw::sheafwinch_open_equal(self.words.as_mut_ptr(), self.words.len(), 1, left, right, budget) })
     }
 
-    /// Works the question that is asked, at most `budget` steps. After MORE the next work goes on where this one stopped. Refusals:
-    /// 4, and at a step 5, 6: these keep the steps before it and leave the question asked.
+    /// Works the question that is asked, at most `budget` steps: a later instalment. After MORE the next work goes on where this one
+    /// stopped. Refusals: 4, and at a step 5, 6: these keep the steps before it and leave the question asked.
     pub fn work(&mut self, budget: u32) -> Instalment {
-        let told = unsafe { raw::sheafwinch_work(self.words.as_mut_ptr(), self.words.len(), budget) };
-        let answer = match told.kind {
-            raw::YES => Answer::Yes,
-            raw::MORE => Answer::More,
-            raw::FAILED => Answer::Failed(Failure::of(told.number, told.values[0], told.values[1], told.values[2])),
-            raw::REFUSED => Answer::Refused(Refusal::of(&told)),
-            _ => unlike_header(),
-        };
-        Instalment { answer, steps: told.steps }
+        instalment(unsafe { raw::sheafwinch_work(self.words.as_mut_ptr(), self.words.len(), budget) })
     }
 
     /// Gives up the question that is asked. What its steps added stays, visited pairs too, so a later question may say yes for
-    /// nothing: ask no more in that table. Refusals: 4.
+    /// nothing: open no more in that table. Refusals: 4.
     pub fn abandon(&mut self) -> Result<(), Refusal> {
         done(unsafe { raw::sheafwinch_abandon(self.words.as_mut_ptr(), self.words.len()) })
     }
@@ -811,6 +853,25 @@ fn values(answer: Raw) -> Result<[u32; 8], Refusal> {
     }
 }
 
+fn instalment(answer: Raw) -> Instalment {
+    let v = answer.values;
+    let came_to = match answer.kind {
+        raw::YES => Answer::Yes,
+        raw::MORE => Answer::More,
+        raw::FAILED => Answer::Failed(Failure::of(answer.number, v[0], v[1], v[2])),
+        raw::REFUSED => Answer::Refused(Refusal::of(&answer)),
+        _ => unlike_header(),
+    };
+    Instalment { answer: came_to, steps: answer.steps }
+}
+
+fn opened(answer: Raw) -> Result<Instalment, Refusal> {
+    match answer.kind {
+        raw::UNOPENED => Err(Refusal::of(&answer)),
+        _ => Ok(instalment(answer)),
+    }
+}
+
 fn done(answer: Raw) -> Result<(), Refusal> {
     values(answer).map(|_| ())
 }
@@ -827,5 +888,24 @@ fn primitive(answer: Raw) -> Option<Primitive> {
     match perhaps(answer) {
         Ok(number) => number.map(|n| known(Primitive::from_number(n))),
         Err(_) => unlike_header(),
+    }
+}
+
+#[cfg(test)]
+mod tests {
+    use super::*;
+
+    /// No call of this crate makes such a table.
+    #[test]
+    fn words_that_are_no_image_are_refused_at_the_opening() {
+        let room = Capacities { entries: 1, visited: 1, pending: 2, equals: 1, ..Capacities::default() };
+        let mut table = Table::start(0, None, room).unwrap();
+        table.make_variable().unwrap();
+        table.words.pop();
+        let before = table.clone();
+        for open in [Table::open, Table::open_held, Table::open_equal, Table::open_equal_held] {
+            assert_eq!(open(&mut table, 0, 0, 9), Err(Refusal::BadTable));
+            assert_eq!(table, before);
+        }
     }
 }

@@ -15,6 +15,7 @@ pub const YES: u32 = 1;
 pub const MORE: u32 = 2;
 pub const FAILED: u32 = 3;
 pub const REFUSED: u32 = 4;
+pub const UNOPENED: u32 = 5;
 
 extern "C" {
     pub fn sheafwinch_check(image: *const u32, words: usize) -> bool;
@@ -41,8 +42,8 @@ extern "C" {
     pub fn sheafwinch_enter(image: *mut u32, words: usize) -> Raw;
     pub fn sheafwinch_exit(image: *mut u32, words: usize) -> Raw;
     pub fn sheafwinch_set_level(image: *mut u32, words: usize, variable: u32, level: u32) -> Raw;
-    pub fn sheafwinch_ask(image: *mut u32, words: usize, held: u32, sub: u32, sup: u32) -> Raw;
-    pub fn sheafwinch_ask_equal(image: *mut u32, words: usize, held: u32, left: u32, right: u32) -> Raw;
+    pub fn sheafwinch_open(image: *mut u32, words: usize, held: u32, sub: u32, sup: u32, budget: u32) -> Raw;
+    pub fn sheafwinch_open_equal(image: *mut u32, words: usize, held: u32, left: u32, right: u32, budget: u32) -> Raw;
     pub fn sheafwinch_work(image: *mut u32, words: usize, budget: u32) -> Raw;
     pub fn sheafwinch_abandon(image: *mut u32, words: usize) -> Raw;
     pub fn sheafwinch_entry(image: *const u32, words: usize, n: u32) -> Raw;

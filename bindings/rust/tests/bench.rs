@@ -38,13 +38,19 @@ fn table() -> Table {
     table_in(ROOM)
 }
 
-fn ask(t: &mut Table, sub: u32, sup: u32) -> Instalment {
-    t.ask(sub, sup).expect("ask");
-    t.work(u32::MAX)
+fn open(t: &mut Table, sub: u32, sup: u32) -> Instalment {
+    t.open(sub, sup, u32::MAX).expect("the opening")
 }
+
+type Open = fn(&mut Table, u32, u32, u32) -> Result<Instalment, Refusal>;
+const OPENS: [Open; 4] = [Table::open, Table::open_held, Table::open_equal, Table::open_equal_held];
 
 fn yes(steps: u32) -> Instalment {
     Instalment { answer: Answer::Yes, steps }
+}
+
+fn more(steps: u32) -> Instalment {
+    Instalment { answer: Answer::More, steps }
 }
 
 fn mismatch(sub: u32, sup: u32) -> Answer {
@@ -58,19 +64,19 @@ fn records(t: &Table, region: Region) -> Vec<Record> {
 #[test]
 fn b1() {
     let mut t = table();
-    assert_eq!(ask(&mut t, 0, 0), yes(1));
+    assert_eq!(open(&mut t, 0, 0), yes(1));
     assert_eq!(t.count(Region::Visited), 0);
 }
 
 #[test]
 fn b2_plain_again_and_held_again() {
     let mut t = table();
-    assert_eq!(ask(&mut t, 1, 0).answer, mismatch(1, 0));
-    assert_eq!(ask(&mut t, 1, 0), yes(1));
+    assert_eq!(open(&mut t, 1, 0).answer, mismatch(1, 0));
+    assert_eq!(open(&mut t, 1, 0), yes(1));
     let before = t.clone();
     let broken = Refusal::Broken(Failure::Mismatch { sub: 1, sup: 0 });
-    assert_eq!(t.ask_held(1, 0), Err(broken));
-    assert_eq!(t.ask_equal_held(1, 0), Err(broken));
+    assert_eq!(t.open_held(1, 0, 9), Err(broken));
+    assert_eq!(t.open_equal_held(1, 0, 9), Err(broken));
     assert_eq!(broken.number(), 8);
     assert_eq!(t, before);
     assert_eq!(t.broken(), Some(Failure::Mismatch { sub: 1, sup: 0 }));
@@ -78,29 +84,27 @@ fn b2_plain_again_and_held_again() {
 
 #[test]
 fn b3_whole() {
-    assert_eq!(ask(&mut table(), 1, 6), Instalment { answer: mismatch(1, 0), steps: 3 });
+    assert_eq!(open(&mut table(), 1, 6), Instalment { answer: mismatch(1, 0), steps: 3 });
 }
 
 #[test]
 fn b3_with_budgets_0_2_1() {
     let mut t = table();
-    t.ask(1, 6).unwrap();
-    assert_eq!(t.work(0), Instalment { answer: Answer::More, steps: 0 });
-    assert_eq!(t.work(2), Instalment { answer: Answer::More, steps: 2 });
+    assert_eq!(t.open(1, 6, 0), Ok(more(0)));
+    assert_eq!(t.work(2), more(2));
     assert!(t.asked());
     assert_eq!(records(&t, Region::Pending), [Record::Pending { sub: 1, sup: 0 }]);
     assert_eq!(t.work(1), Instalment { answer: mismatch(1, 0), steps: 1 });
     assert!(!t.asked());
     let mut whole = table();
-    ask(&mut whole, 1, 6);
+    open(&mut whole, 1, 6);
     assert_eq!(t, whole);
 }
 
 #[test]
 fn b3_stored_and_loaded_between() {
     let mut t = table();
-    t.ask(1, 6).unwrap();
-    assert_eq!(t.work(2).answer, Answer::More);
+    assert_eq!(t.open(1, 6, 2), Ok(more(2)));
     let mut later = Table::from_words(t.words().to_vec()).unwrap();
     assert_eq!(later.work(1), t.work(1));
     assert_eq!(later.into_words(), t.words());
@@ -108,23 +112,23 @@ fn b3_stored_and_loaded_between() {
 
 #[test]
 fn b4() {
-    assert_eq!(ask(&mut table(), 2, 6), yes(2));
+    assert_eq!(open(&mut table(), 2, 6), yes(2));
 }
 
 #[test]
 fn b5() {
     let mut t = table();
     let missing = Answer::Failed(Failure::MissingField { sub: 8, sup: 10, name: 2 });
-    assert_eq!(ask(&mut t, 8, 10).answer, missing);
+    assert_eq!(open(&mut t, 8, 10).answer, missing);
     assert_eq!(records(&t, Region::Visited), [Record::Visited { sub: 8, sup: 10 }]);
 }
 
 #[test]
 fn b6() {
     let mut t = table();
-    assert_eq!(ask(&mut t, 0, 4), yes(1));
-    assert_eq!(ask(&mut t, 4, 5), yes(2));
-    assert_eq!(ask(&mut t, 5, 1), yes(2));
+    assert_eq!(open(&mut t, 0, 4), yes(1));
+    assert_eq!(open(&mut t, 4, 5), yes(2));
+    assert_eq!(open(&mut t, 5, 1), yes(2));
     let bound = |variable, side, bound| Record::Bound { variable, side, bound };
     let bounds = [bound(4, Side::Lower, 0), bound(4, Side::Upper, 5), bound(5, Side::Lower, 0), bound(5, Side::Upper, 1)];
     assert_eq!(records(&t, Region::Bounds), bounds);
@@ -132,29 +136,29 @@ fn b6() {
 
 #[test]
 fn b7_b8_b9() {
-    assert_eq!(ask(&mut table(), 3, 7).answer, Answer::Yes);
-    assert_eq!(ask(&mut table(), 1, 7).answer, mismatch(1, 7));
-    assert_eq!(ask(&mut table(), 12, 11).answer, mismatch(12, 11));
+    assert_eq!(open(&mut table(), 3, 7).answer, Answer::Yes);
+    assert_eq!(open(&mut table(), 1, 7).answer, mismatch(1, 7));
+    assert_eq!(open(&mut table(), 12, 11).answer, mismatch(12, 11));
 }
 
 #[test]
 fn b10() {
     let mut t = table();
-    assert_eq!(ask(&mut t, 13, 11), yes(2));
+    assert_eq!(open(&mut t, 13, 11), yes(2));
     assert_eq!(t.count(Region::Entries), 17);
 }
 
 #[test]
 fn b11() {
     let mut t = table();
-    assert_eq!(ask(&mut t, 14, 0).answer, mismatch(14, 0));
+    assert_eq!(open(&mut t, 14, 0).answer, mismatch(14, 0));
     assert_eq!(t.count(Region::Entries), 15);
 }
 
 #[test]
 fn b12() {
     let mut t = table();
-    assert_eq!(ask(&mut t, 14, 3), yes(2));
+    assert_eq!(open(&mut t, 14, 3), yes(2));
     assert_eq!(t.entry(16), Ok(Entry::Union { left: 3, right: 15 }));
     assert_eq!(t.entry(15), Ok(Entry::Neg { inner: 3 }));
 }
@@ -162,9 +166,9 @@ fn b12() {
 #[test]
 fn no_room_in_20_entries() {
     let mut t = table_in(Capacities { entries: 20, ..ROOM });
-    assert_eq!(ask(&mut t, 13, 4).answer, Answer::Yes);
+    assert_eq!(open(&mut t, 13, 4).answer, Answer::Yes);
     let no_room = Refusal::NoRoom(Region::Entries);
-    assert_eq!(ask(&mut t, 13, 11), Instalment { answer: Answer::Refused(no_room), steps: 4 });
+    assert_eq!(t.open(13, 11, 9), Ok(Instalment { answer: Answer::Refused(no_room), steps: 4 }));
     assert_eq!(t.count(Region::Entries), 19);
     assert!(t.asked());
     assert_eq!(t.work(9), Instalment { answer: Answer::Refused(no_room), steps: 0 });
@@ -202,11 +206,102 @@ fn refusals_leave_every_word() {
     assert_eq!(t.put_bound(0, Side::Upper, 1), Err(Refusal::NotAVariable));
     assert_eq!(t.set_level(0, 1), Err(Refusal::NotAVariable));
     assert_eq!(t, before);
-    t.ask(1, 6).unwrap();
+    assert_eq!(t.open(1, 6, 0), Ok(more(0)));
     let before = t.clone();
     assert_eq!(t.make_variable(), Err(Refusal::Busy));
-    assert_eq!(t.ask(0, 0), Err(Refusal::Busy));
     assert_eq!(t, before);
+}
+
+/// Opens by every call, with budgets 0 and 9: refused at the opening, and every word is as it was.
+fn refused_at_the_opening(t: &mut Table, sub: u32, sup: u32, opens: &[Open], refusal: Refusal) {
+    let before = t.clone();
+    for open in opens {
+        for budget in [0, 9] {
+            assert_eq!(open(t, sub, sup, budget), Err(refusal));
+            assert_eq!(*t, before);
+        }
+    }
+}
+
+#[test]
+fn refusals_at_the_opening() {
+    let (held, equal) = ([OPENS[1], OPENS[3]], &OPENS[2..]);
+    let broken = Refusal::Broken(Failure::Mismatch { sub: 1, sup: 0 });
+    let mut t = table();
+    refused_at_the_opening(&mut t, 15, 0, &OPENS, Refusal::BadNumber);
+    refused_at_the_opening(&mut t, 0, 15, &OPENS, Refusal::BadNumber);
+    assert_eq!(open(&mut t, 1, 0).answer, mismatch(1, 0));
+    // 8 is before 2
+    refused_at_the_opening(&mut t, 15, 0, &held, broken);
+    assert_eq!(t.open(1, 6, 0), Ok(more(0)));
+    // 3 is before both
+    refused_at_the_opening(&mut t, 15, 0, &OPENS, Refusal::Busy);
+
+    let no_pending = Refusal::NoRoom(Region::Pending);
+    refused_at_the_opening(&mut table_in(Capacities { pending: 0, ..ROOM }), 0, 1, &OPENS, no_pending);
+    let mut t = table_in(Capacities { pending: 1, equals: 0, ..ROOM });
+    refused_at_the_opening(&mut t, 0, 1, equal, no_pending);
+    let mut t = table_in(Capacities { equals: 0, ..ROOM });
+    refused_at_the_opening(&mut t, 0, 1, equal, Refusal::NoRoom(Region::Equals));
+    // an entry with itself is not recorded
+    assert_eq!(t.open_equal(0, 0, 9), Ok(yes(2)));
+}
+
+#[test]
+fn no_room_at_the_opening_and_at_a_step() {
+    let no_pending = Refusal::NoRoom(Region::Pending);
+    let mut t = table_in(Capacities { pending: 0, ..ROOM });
+    assert_eq!(t.open(1, 6, 9), Err(no_pending));
+    assert!(!t.asked());
+    // its one record is free again at the step, which needs two
+    let mut t = table_in(Capacities { pending: 1, ..ROOM });
+    assert_eq!(t.open(1, 6, 9), Ok(Instalment { answer: Answer::Refused(no_pending), steps: 0 }));
+    assert!(t.asked());
+    assert_eq!(records(&t, Region::Pending), [Record::Pending { sub: 1, sup: 6 }]);
+}
+
+#[test]
+fn held_is_plain_where_none_failed() {
+    for (plain, held) in [(OPENS[0], OPENS[1]), (OPENS[2], OPENS[3])] {
+        for (sub, sup) in (0..15).flat_map(|sub| (0..15).map(move |sup| (sub, sup))) {
+            let (mut t, mut other) = (table(), table());
+            assert_eq!(held(&mut t, sub, sup, 9), plain(&mut other, sub, sup, 9));
+            assert_eq!(t, other);
+        }
+    }
+}
+
+#[test]
+fn opened_with_0_and_worked_is_opened() {
+    let prepared = |failed: bool| {
+        let mut t = table_in(Capacities { entries: 20, visited: 9, pending: 3, equals: 1, ..ROOM });
+        assert_eq!(open(&mut t, 13, 4).answer, Answer::Yes);
+        if failed {
+            assert_eq!(open(&mut t, 3, 0).answer, mismatch(3, 0));
+        }
+        t
+    };
+    let (mut ended, mut stopped, mut refused) = (0, 0, 0);
+    for (i, how) in OPENS.into_iter().enumerate() {
+        // a held one in a table that no question has failed in
+        let before = prepared(i % 2 == 0);
+        for (sub, sup) in (0..15).flat_map(|sub| (0..15).map(move |sup| (sub, sup))) {
+            for budget in [0, 1, 2, 5, u32::MAX] {
+                let (mut once, mut twice) = (before.clone(), before.clone());
+                let told = how(&mut once, sub, sup, budget).expect("there is room to open it");
+                assert_eq!(how(&mut twice, sub, sup, 0), Ok(more(0)));
+                assert_eq!(twice.work(budget), told);
+                assert_eq!(twice, once, "({sub}, {sup}), budget {budget}");
+                match told.answer {
+                    Answer::More => stopped += 1,
+                    Answer::Refused(_) => refused += 1,
+                    _ => ended += 1,
+                }
+                assert_eq!(once.asked(), matches!(told.answer, Answer::More | Answer::Refused(_)));
+            }
+        }
+    }
+    assert!(ended > 0 && stopped > 0 && refused > 0, "{ended} ended, {stopped} stopped, {refused} refused");
 }
 
 #[test]
@@ -267,7 +362,7 @@ fn every_kind_is_read() {
     assert_eq!(t.entry(7), Ok(Entry::Neg { inner: 0 }));
     assert_eq!(t.entry(11), Ok(Entry::Lambda { param: 0, body: 3 }));
     assert_eq!(t.entry(14), Ok(Entry::Inter { left: 4, right: 3 }));
-    t.ask_equal(0, 2).unwrap();
+    assert_eq!(t.open_equal(0, 2, 0), Ok(more(0)));
     assert_eq!(records(&t, Region::Equals), [Record::Equal { left: 0, right: 2 }]);
     assert_eq!(t.disjoint(0, 3), Ok(true));
     assert_eq!(t.disjoint(0, 1), Ok(false));
