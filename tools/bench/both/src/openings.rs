@@ -9,6 +9,8 @@ use std::hint::black_box;
 
 /// Questions that are timed in a round: a table's, of as many fresh copies as it takes.
 const QUESTIONS: usize = 10_000;
+/// Checks between two looks at the clock.
+const CHECKS: u32 = 100;
 const BUDGET: u32 = u32::MAX;
 const MORE: Instalment = Instalment { answer: Answer::More, steps: 0 };
 
@@ -91,7 +93,7 @@ fn see(ready: &Ready, questions: &[Question], steps: u32) -> Opened {
     assert!(left[0] == left[1], "{}: one call and two leave different words", ready.name);
     let [two, one] = [two_calls as Way, one_call].map(|way| move || run(&ready.table, questions, steps, way));
     let ([two, one], rounds) = timing::in_turn([&two, &one]);
-    let check = timing::check(&left[0]);
+    let check = timing::check(&left[0], CHECKS);
     let name = ready.name.to_string();
     Opened { name, words: ready.table.words().len(), steps, two, one, check, rounds }
 }
