@@ -102,6 +102,7 @@ impl Session<'_> {
         for number in 0.. {
             self.tally.instalments += 1;
             let budget = question.budget(number, steps);
+            same("whether an instalment keeps to its budget", told.steps <= budget, true)?;
             steps += told.steps;
             if told.answer != Answer::More {
                 if let (0, Answer::Refused(refusal)) = (number, told.answer) {
