@@ -12,23 +12,23 @@ use denote.Ref.{RefT}
 use Rattle.model.specs.Table.{isAsked}
 use Rattle.model.specs.Image.{table}
 use Rattle.model.specs.Rules.{breakOf}
-use Rattle.model.specs.Told.{Told, done, yes, more, failed, refused, toldRefusal, toldFailure}
-use Rattle.model.specs.Calls.{brokenBy, Call, makesVariable, makesPrimitive, makesList, makesLambda, makesAttrset, makesNamed, makesNeg, makesInter, makesUnion, marks, putsBound, enters, exits, setsLevel, under, bothWays, asks, works, abandons, perform}
+use Rattle.model.specs.Told.{Told, done, yes, more, failed, refused, unopened, toldRefusal, toldUnopened, toldFailure}
+use Rattle.model.specs.Calls.{brokenBy, Call, makesVariable, makesPrimitive, makesList, makesLambda, makesAttrset, makesNamed, makesNeg, makesInter, makesUnion, marks, putsBound, enters, exits, setsLevel, under, bothWays, opens, works, abandons, perform}
 use Rattle.model.specs.declared.Question.{Question}
 use Rattle.model.specs.declared.Failure.{Failure}
 use Rattle.model.specs.declared.Refusal.{Refusal}
 use Rattle.model.specs.declared.Refusal.the-variants.{Broken}
-use Rattle.laws.specs.Refusals.{isWork, forRoom, KeepsEarlier, plain}
+use Rattle.laws.specs.Refusals.{takesSteps, forRoom, KeepsEarlier, plain}
 use Rattle.laws.specs.Demands.{isMore}
 use Rattle.laws.proofs.Refused.{no-steps}
 use Rattle.demands.specs.Started.{Ours, firstTold}
-use Rattle.demands.specs.Meets.{Meets, MeetsStart, Run, ends, goes-on}
+use Rattle.demands.specs.Meets.{Meets, MeetsStart, Run, ends, goes-on, Course, at-opening, worked-on}
 use Rattle.demands.proofs.Numbered.{Numbered, numbered}
-use Rattle.demands.proofs.Demand1.{refused-leaves-all, work-leaves-all, work-keeps-earlier}
+use Rattle.demands.proofs.Demand1.{refused-leaves-all, work-leaves-all, work-keeps-earlier, opening-leaves-all, opening-by-step, opening-keeps-earlier}
 use Rattle.demands.proofs.Demand2 as demand-2
 use Rattle.capi.specs.Answers.{answerOf, flagOf, dynamicOf, capacitiesOf}
 use Rattle.capi.specs.declared.Answer.{Answer}
-use Rattle.capi.proofs.OneToOne.{steps-found, told-once, refusal-in-struct}
+use Rattle.capi.proofs.OneToOne.{steps-found, told-once, unopened-in-struct}
 use Rattle.capi.proofs.sheafwinch_start.Reads as c-start
 use Rattle.capi.proofs.sheafwinch_work.Reads as c-work
 use Rattle.capi.proofs.sheafwinch_make_variable.Reads as c-make-variable
@@ -45,8 +45,8 @@ use Rattle.capi.proofs.sheafwinch_put_bound.Reads as c-put-bound
 use Rattle.capi.proofs.sheafwinch_enter.Reads as c-enter
 use Rattle.capi.proofs.sheafwinch_exit.Reads as c-exit
 use Rattle.capi.proofs.sheafwinch_set_level.Reads as c-set-level
-use Rattle.capi.proofs.sheafwinch_ask.Reads as c-ask
-use Rattle.capi.proofs.sheafwinch_ask_equal.Reads as c-ask-equal
+use Rattle.capi.proofs.sheafwinch_open.Reads as c-open
+use Rattle.capi.proofs.sheafwinch_open_equal.Reads as c-open-equal
 use Rattle.capi.proofs.sheafwinch_abandon.Reads as c-abandon
 
 -- an answer whose words are those of what is told, by an outcome that meets the call
@@ -69,7 +69,7 @@ abbrev pub Met : {K : Type 0} {A X : K → Type 0} → ((κs : K) → A κs → 
 Met {K} {A} {X} call post =
     (κs : K) (a : RefT (List ℕ) × A κs) (x : Answer) (e : RefT (List ℕ) × X κs) → post κs a x e → CallMet (call κs (a .1)) (a .0 .now) x (e .0 .now)
 
-met : {v w : List ℕ} {x : Answer} (c : Call) → isWork c ≡ false → x ≡ answerOf 0 (perform c v .says) → w ≡ perform c v .words → CallMet c v x w
+met : {v w : List ℕ} {x : Answer} (c : Call) → takesSteps c ≡ false → x ≡ answerOf 0 (perform c v .says) → w ≡ perform c v .words → CallMet c v x w
 met {v} c n e f = met-by c 0 (sym (no-steps c n v)) e f
 
 pub c-start-met : (κs : _) (a : _) (x : Answer) (e : _) → c-start.Post κs a x e
@@ -118,19 +118,24 @@ c-exit-met κs a x e p = met (exits) refl (p .0) (p .1)
 pub c-set-level-met : Met (λ κs a. setsLevel (a .0) (a .1 .0)) c-set-level.Post
 c-set-level-met κs a x e p = met (setsLevel (a .1 .0) (a .1 .1 .0)) refl (p .0) (p .1)
 
-pub c-ask-met : Met (λ κs a. asks (under (flagOf (a .0)) (a .1 .0) (a .1 .1 .0))) c-ask.Post
-c-ask-met κs a x e p = met (asks (under (flagOf (a .1 .0)) (a .1 .1 .0) (a .1 .1 .1 .0))) refl (p .0) (p .1)
-
-pub c-ask-equal-met : Met (λ κs a. asks (bothWays (flagOf (a .0)) (a .1 .0) (a .1 .1 .0))) c-ask-equal.Post
-c-ask-equal-met κs a x e p = met (asks (bothWays (flagOf (a .1 .0)) (a .1 .1 .0) (a .1 .1 .1 .0))) refl (p .0) (p .1)
-
 pub c-abandon-met : Met (λ κs a. abandons) c-abandon.Post
 c-abandon-met κs a x e p = met (abandons) refl (p .0) (p .1)
 
 pub c-work-met : Met (λ κs a. works (a .0)) c-work.Post
 c-work-met κs a x e p = met-by (works (a .1 .0)) (perform (works (a .1 .0)) (a .0 .now) .steps) refl (p .0) (p .1)
 
--- What an answer's kind says of what is told: 4 a refusal of 01's, with its number; 3 a failure; 2 MORE; 1 yes; 0 done.
+pub c-open-met : Met (λ κs a. opens (under (flagOf (a .0)) (a .1 .0) (a .1 .1 .0)) (a .1 .1 .1 .0)) c-open.Post
+c-open-met κs a x e p =
+    let c : Call = opens (under (flagOf (a .1 .0)) (a .1 .1 .0) (a .1 .1 .1 .0)) (a .1 .1 .1 .1 .0) in
+    met-by c (perform c (a .0 .now) .steps) refl (p .0) (p .1)
+
+pub c-open-equal-met : Met (λ κs a. opens (bothWays (flagOf (a .0)) (a .1 .0) (a .1 .1 .0)) (a .1 .1 .1 .0)) c-open-equal.Post
+c-open-equal-met κs a x e p =
+    let c : Call = opens (bothWays (flagOf (a .1 .0)) (a .1 .1 .0) (a .1 .1 .1 .0)) (a .1 .1 .1 .1 .0) in
+    met-by c (perform c (a .0 .now) .steps) refl (p .0) (p .1)
+
+-- What an answer's kind says of what is told: 5 a refusal at the opening, 4 another, each of 01's, with its number; 3 a failure; 2 MORE;
+-- 1 yes; 0 done.
 module _ {c : Call} {v w : List ℕ} {x : Answer} (m : CallMet c v x w) where
   told-numbered : Numbered (m .told)
   told-numbered = subst (λ (t : Told). Numbered t) (sym (m .meets .tells)) (numbered c v)
@@ -142,9 +147,22 @@ module _ {c : Call} {v w : List ℕ} {x : Answer} (m : CallMet c v x w) where
   refused-by more e h p k = let z : _≡_ {A = ℕ} 2 4 = sym (ap (λ (y : Answer). y .kind) e) ∙ k in absurd (omega arith)
   refused-by (failed n l) e h p k = let z : _≡_ {A = ℕ} 3 4 = sym (ap (λ (y : Answer). y .kind) e) ∙ k in absurd (omega arith)
   refused-by (refused n l) e (r, d) p k = (r, e ∙ ap (answerOf (x .steps)) d, subst (λ (t : Told). Meets c v t (x .steps) w) d p)
+  refused-by (unopened n l) e h p k = let z : _≡_ {A = ℕ} 5 4 = sym (ap (λ (y : Answer). y .kind) e) ∙ k in absurd (omega arith)
 
   pub c-refused : x .kind ≡ 4 → (r : Refusal) × (x ≡ answerOf (x .steps) (toldRefusal r)) × Meets c v (toldRefusal r) (x .steps) w
   c-refused = refused-by (m .told) (m .shows) told-numbered (m .meets)
+
+  unopened-by : (t : Told) → x ≡ answerOf (x .steps) t → Numbered t → Meets c v t (x .steps) w → x .kind ≡ 5
+      → (r : Refusal) × (x ≡ answerOf (x .steps) (toldUnopened r)) × Meets c v (toldUnopened r) (x .steps) w
+  unopened-by (done l) e h p k = let z : _≡_ {A = ℕ} 0 5 = sym (ap (λ (y : Answer). y .kind) e) ∙ k in absurd (omega arith)
+  unopened-by yes e h p k = let z : _≡_ {A = ℕ} 1 5 = sym (ap (λ (y : Answer). y .kind) e) ∙ k in absurd (omega arith)
+  unopened-by more e h p k = let z : _≡_ {A = ℕ} 2 5 = sym (ap (λ (y : Answer). y .kind) e) ∙ k in absurd (omega arith)
+  unopened-by (failed n l) e h p k = let z : _≡_ {A = ℕ} 3 5 = sym (ap (λ (y : Answer). y .kind) e) ∙ k in absurd (omega arith)
+  unopened-by (refused n l) e h p k = let z : _≡_ {A = ℕ} 4 5 = sym (ap (λ (y : Answer). y .kind) e) ∙ k in absurd (omega arith)
+  unopened-by (unopened n l) e (r, d) p k = (r, e ∙ ap (answerOf (x .steps)) d, subst (λ (t : Told). Meets c v t (x .steps) w) d p)
+
+  pub c-unopened : x .kind ≡ 5 → (r : Refusal) × (x ≡ answerOf (x .steps) (toldUnopened r)) × Meets c v (toldUnopened r) (x .steps) w
+  c-unopened = unopened-by (m .told) (m .shows) told-numbered (m .meets)
 
   failed-by : (t : Told) → x ≡ answerOf (x .steps) t → Numbered t → Meets c v t (x .steps) w → x .kind ≡ 3 → (f : Failure) × Meets c v (toldFailure f) (x .steps) w
   failed-by (done l) e h p k = let z : _≡_ {A = ℕ} 0 3 = sym (ap (λ (y : Answer). y .kind) e) ∙ k in absurd (omega arith)
@@ -152,6 +170,7 @@ module _ {c : Call} {v w : List ℕ} {x : Answer} (m : CallMet c v x w) where
   failed-by more e h p k = let z : _≡_ {A = ℕ} 2 3 = sym (ap (λ (y : Answer). y .kind) e) ∙ k in absurd (omega arith)
   failed-by (failed n l) e (f, d) p k = (f, subst (λ (t : Told). Meets c v t (x .steps) w) d p)
   failed-by (refused n l) e h p k = let z : _≡_ {A = ℕ} 4 3 = sym (ap (λ (y : Answer). y .kind) e) ∙ k in absurd (omega arith)
+  failed-by (unopened n l) e h p k = let z : _≡_ {A = ℕ} 5 3 = sym (ap (λ (y : Answer). y .kind) e) ∙ k in absurd (omega arith)
 
   pub c-failed : x .kind ≡ 3 → (f : Failure) × Meets c v (toldFailure f) (x .steps) w
   c-failed = failed-by (m .told) (m .shows) told-numbered (m .meets)
@@ -162,6 +181,7 @@ module _ {c : Call} {v w : List ℕ} {x : Answer} (m : CallMet c v x w) where
   more-by more e k = refl
   more-by (failed n l) e k = let z : _≡_ {A = ℕ} 3 2 = sym (ap (λ (y : Answer). y .kind) e) ∙ k in absurd (omega arith)
   more-by (refused n l) e k = let z : _≡_ {A = ℕ} 4 2 = sym (ap (λ (y : Answer). y .kind) e) ∙ k in absurd (omega arith)
+  more-by (unopened n l) e k = let z : _≡_ {A = ℕ} 5 2 = sym (ap (λ (y : Answer). y .kind) e) ∙ k in absurd (omega arith)
 
   pub c-more : x .kind ≡ 2 → Meets c v more (x .steps) w
   c-more k = subst (λ (t : Told). Meets c v t (x .steps) w) (more-by (m .told) (m .shows) k) (m .meets)
@@ -173,37 +193,55 @@ module _ {c : Call} {v w : List ℕ} {x : Answer} (m : CallMet c v x w) where
   not-more-by more e k = absurd (k (ap (λ (y : Answer). y .kind) e))
   not-more-by (failed n l) e k = refl
   not-more-by (refused n l) e k = refl
+  not-more-by (unopened n l) e k = refl
 
--- Demand 1: a refusal of any call but work leaves every word; work refused by 5 or 6 keeps its earlier steps, by another every word.
-pub c-refused-leaves-all : {v w : List ℕ} {x : Answer} (c : Call) → isWork c ≡ false → CallMet c v x w → x .kind ≡ 4 → w ≡ v
+-- Demand 1: a refusal of any call but an opening and work leaves every word; work refused by 5 or 6 keeps its earlier steps, by another every
+-- word; an opening of kind 5 leaves every word and takes no step, of kind 4 is refused by 5 or 6 and keeps its earlier steps.
+pub c-refused-leaves-all : {v w : List ℕ} {x : Answer} (c : Call) → takesSteps c ≡ false → CallMet c v x w → x .kind ≡ 4 → w ≡ v
 c-refused-leaves-all c n m k = let r = c-refused m k in refused-leaves-all c n (r .0) (r .2)
 
 pub c-work-refused : {v w : List ℕ} {x : Answer} {b : ℕ} → CallMet (works b) v x w → x .kind ≡ 4
-    → (r : Refusal) × (x ≡ answerOf (x .steps) (toldRefusal r)) × (forRoom r ≡ false → (w ≡ v) × (x .steps ≡ 0)) × (forRoom r ≡ true → KeepsEarlier b v (x .steps) w)
+    → (r : Refusal) × (x ≡ answerOf (x .steps) (toldRefusal r)) × (forRoom r ≡ false → (w ≡ v) × (x .steps ≡ 0)) × (forRoom r ≡ true → KeepsEarlier works b v (x .steps) w)
 c-work-refused m k = let r = c-refused m k in (r .0, r .1, work-leaves-all (r .0) (r .2), work-keeps-earlier (r .0) (r .2))
+
+pub c-open-unopened : {v w : List ℕ} {x : Answer} {b : ℕ} (q : Question) → CallMet (opens q b) v x w → x .kind ≡ 5
+    → (r : Refusal) × (x ≡ answerOf 0 (toldUnopened r)) × (w ≡ v) × (x .steps ≡ 0)
+c-open-unopened {x = x} q m k =
+    let r = c-unopened m k in
+    let h = opening-leaves-all q (r .0) (r .2) in
+    (r .0, r .1 ∙ ap (λ (n : ℕ). answerOf n (toldUnopened (r .0))) (h .1), h .0, h .1)
+
+pub c-open-refused : {v w : List ℕ} {x : Answer} {b : ℕ} (q : Question) → CallMet (opens q b) v x w → x .kind ≡ 4
+    → (r : Refusal) × (x ≡ answerOf (x .steps) (toldRefusal r)) × (forRoom r ≡ true) × KeepsEarlier (opens q) b v (x .steps) w
+c-open-refused q m k = let r = c-refused m k in (r .0, r .1, opening-by-step q (r .0) (r .2), opening-keeps-earlier q (r .0) (r .2))
 
 -- Demand 2: a held question, where none is asked, in a table started by us: refused with 8 exactly when an earlier question has failed,
 -- with the first failure; with none it is the plain question.
-module _ {v w : List ℕ} {x : Answer} (o : Ours v) (q : Question) (held : q .held ≡ true) (idle : T (not (isAsked (table v)))) (m : CallMet (asks q) v x w) where
-  pub c-held-carries-first : (f : Failure) → firstTold o ≡ some f → (x ≡ answerOf (x .steps) (toldRefusal (brokenBy (breakOf f)))) × (w ≡ v)
+module _ {v w : List ℕ} {x : Answer} {b : ℕ} (o : Ours v) (q : Question) (held : q .held ≡ true) (idle : T (not (isAsked (table v)))) (m : CallMet (opens q b) v x w) where
+  pub c-held-carries-first : (f : Failure) → firstTold o ≡ some f → (x ≡ answerOf 0 (toldUnopened (brokenBy (breakOf f)))) × (w ≡ v)
   c-held-carries-first f e =
       let k = demand-2.held-carries-first o q held idle (m .meets) f e in
-      (m .shows ∙ ap (answerOf (x .steps)) (k .0), k .1)
+      (m .shows ∙ ap (answerOf (x .steps)) (k .0) ∙ ap (λ (n : ℕ). answerOf n (toldUnopened (brokenBy (breakOf f)))) (k .1), k .2)
 
-  pub c-held-none-failed : firstTold o ≡ none → (x ≡ answerOf (x .steps) (perform (asks (plain q)) v .says)) × (w ≡ perform (asks (plain q)) v .words)
-  c-held-none-failed e =
-      let k = demand-2.held-none-failed o q held idle (m .meets) e in
-      (m .shows ∙ ap (answerOf (x .steps)) (k .0), k .1)
+  pub c-held-none-failed : firstTold o ≡ none → CallMet (opens (plain q) b) v x w
+  c-held-none-failed e = record { told = m .told; shows = m .shows; meets = demand-2.held-none-failed o q held idle (m .meets) e }
 
-  pub c-held-refused-failed : (k a b n : ℕ) → x ≡ answerOf (x .steps) (toldRefusal (Broken k a b n)) → (f : Failure) × (firstTold o ≡ some f)
-  c-held-refused-failed k a b n e =
-      let r = c-refused m (ap (λ (y : Answer). y .kind) e) in
-      let d = told-once (x .steps) (x .steps) (toldRefusal (r .0)) (toldRefusal (Broken k a b n)) (refusal-in-struct (r .0)) (refusal-in-struct (Broken k a b n)) (sym (r .1) ∙ e) in
-      demand-2.held-refused-failed o q held idle (r .2) k a b n d
+  pub c-held-refused-failed : (k a s n : ℕ) → x ≡ answerOf (x .steps) (toldUnopened (Broken k a s n)) → (f : Failure) × (firstTold o ≡ some f)
+  c-held-refused-failed k a s n e =
+      let r = c-unopened m (ap (λ (y : Answer). y .kind) e) in
+      let d = told-once (x .steps) (x .steps) (toldUnopened (r .0)) (toldUnopened (Broken k a s n)) (unopened-in-struct (r .0)) (unopened-in-struct (Broken k a s n)) (sym (r .1) ∙ e) in
+      demand-2.held-refused-failed o q held idle (r .2) k a s n d
 
--- Demand 3: calls of work for C one after the other, going on while the kind is 2, are a run; crate demands says what it comes to.
+-- Demand 3: an opening for C, and calls of work for C after it, going on while the kind is 2, are a question's course; crate demands says
+-- what it comes to. Calls of work alone are a run.
 pub c-ends : {bs v w : List ℕ} {x : Answer} (b : ℕ) (m : CallMet (works b) v x w) → (x .kind ≡ 2 → ⊥) → Run (b ∷ bs) v (m .told) (x .steps) w
 c-ends b m k = ends b (m .meets) (not-more-by m (m .told) (m .shows) k)
 
 pub c-goes-on : {bs v u w : List ℕ} {x : Answer} {a : Told} {n : ℕ} (b : ℕ) → CallMet (works b) v x u → x .kind ≡ 2 → Run bs u a n w → Run (b ∷ bs) v a (x .steps + n) w
 c-goes-on b m k rest = goes-on b (c-more m k) rest
+
+pub c-at-opening : {bs v w : List ℕ} {x : Answer} (q : Question) (b : ℕ) (m : CallMet (opens q b) v x w) → (x .kind ≡ 2 → ⊥) → Course q (b ∷ bs) v (m .told) (x .steps) w
+c-at-opening q b m k = at-opening b (m .meets) (not-more-by m (m .told) (m .shows) k)
+
+pub c-worked-on : {bs v u w : List ℕ} {x : Answer} {a : Told} {n : ℕ} (q : Question) (b : ℕ) → CallMet (opens q b) v x u → x .kind ≡ 2 → Run bs u a n w → Course q (b ∷ bs) v a (x .steps + n) w
+c-worked-on q b m k rest = worked-on b (c-more m k) rest

@@ -7,7 +7,7 @@ use mathlib.Core.List.{List, [], _∷_}
 use mathlib.Core.Bool.{Bool, cond, _&&_}
 use lib.ListN.{length, take}
 use lib.Dec.{eqb}
-use Rattle.model.specs.Told.{Told, done, yes, more, failed, refused, carried, carriedValues, toldRefusal, toldFailure, toldReply, toldMade, toldAnswer, toldAttrset, toldEntry, toldEntryRead, toldRecord, toldDisjointness}
+use Rattle.model.specs.Told.{Told, done, yes, more, failed, refused, unopened, carried, carriedValues, toldRefusal, toldUnopened, toldFailure, toldReply, toldMade, toldAnswer, toldOpening, toldAttrset, toldEntry, toldEntryRead, toldRecord, toldDisjointness}
 use Rattle.model.specs.declared.Refusal.{Refusal}
 use Rattle.model.specs.declared.Carried.{Carried}
 use Rattle.model.specs.declared.Carried.the-variants as K
@@ -19,6 +19,8 @@ use Rattle.model.specs.declared.Made.{Made}
 use Rattle.model.specs.declared.Made.the-variants as M
 use Rattle.model.specs.declared.Answer.{Answer as Worked}
 use Rattle.model.specs.declared.Answer.the-variants as A
+use Rattle.model.specs.declared.Opening.{Opening}
+use Rattle.model.specs.declared.Opening.the-variants as G
 use Rattle.model.specs.declared.Dynamic.{Dynamic}
 use Rattle.model.specs.declared.Dynamic.the-variants as D
 use Rattle.model.specs.declared.Entry.{Entry}
@@ -51,6 +53,7 @@ valuesOf yes = []
 valuesOf more = []
 valuesOf (failed kind vs) = vs
 valuesOf (refused number vs) = vs
+valuesOf (unopened number vs) = vs
 
 -- no more than the struct has room for
 abbrev pub InStruct : Told → Type 0
@@ -66,7 +69,8 @@ told-back a =
     (cond (eqb (a .kind) 1) yes
     (cond (eqb (a .kind) 2) more
     (cond (eqb (a .kind) 3) (failed (a .number) (listed a))
-    (refused (a .number) (listed a)))))
+    (cond (eqb (a .kind) 4) (refused (a .number) (listed a))
+    (unopened (a .number) (listed a))))))
 
 pub values-found : (kind number steps : ℕ) (vs : List ℕ) → length vs ≤ 8 → listed (answer kind number steps vs) ≡ vs
 values-found k n s [] h = refl
@@ -87,6 +91,7 @@ told-found s yes h = refl
 told-found s more h = refl
 told-found s (failed n vs) h = ap (failed n) (values-found 3 n s vs h)
 told-found s (refused n vs) h = ap (refused n) (values-found 4 n s vs h)
+told-found s (unopened n vs) h = ap (unopened n) (values-found 5 n s vs h)
 
 pub steps-found : (steps : ℕ) (t : Told) → answerOf steps t .steps ≡ steps
 steps-found s (done vs) = refl
@@ -94,6 +99,7 @@ steps-found s yes = refl
 steps-found s more = refl
 steps-found s (failed n vs) = refl
 steps-found s (refused n vs) = refl
+steps-found s (unopened n vs) = refl
 
 -- equal structs tell the same
 pub told-once : (s u : ℕ) (a b : Told) → InStruct a → InStruct b → answerOf s a ≡ answerOf u b → a ≡ b
@@ -112,6 +118,9 @@ carried-fits (K.Break kind sub sup name) = omega arith
 pub refusal-in-struct : (r : Refusal) → InStruct (toldRefusal r)
 refusal-in-struct r = carried-fits (carried r)
 
+pub unopened-in-struct : (r : Refusal) → InStruct (toldUnopened r)
+unopened-in-struct r = carried-fits (carried r)
+
 pub reply-in-struct : (r : Reply) → InStruct (toldReply r)
 reply-in-struct Y.Done = omega arith
 reply-in-struct (Y.Refused r) = refusal-in-struct r
@@ -129,6 +138,10 @@ worked-in-struct A.Yes = omega arith
 worked-in-struct A.More = omega arith
 worked-in-struct (A.Failed f) = failure-in-struct f
 worked-in-struct (A.Refused r) = refusal-in-struct r
+
+pub opening-in-struct : (r : Opening) → InStruct (toldOpening r)
+opening-in-struct (G.Refused r) = unopened-in-struct r
+opening-in-struct (G.Worked i) = worked-in-struct (i .answer)
 
 pub attrset-in-struct : (first count : ℕ) (isOpen : Bool) (d : Dynamic) → InStruct (done (toldAttrset first count isOpen d))
 attrset-in-struct first count isOpen D.Absent = omega arith

@@ -18,8 +18,8 @@ use Rattle.capi.proofs.sheafwinch_put_bound.Reads as c-put-bound
 use Rattle.capi.proofs.sheafwinch_enter.Reads as c-enter
 use Rattle.capi.proofs.sheafwinch_exit.Reads as c-exit
 use Rattle.capi.proofs.sheafwinch_set_level.Reads as c-set-level
-use Rattle.capi.proofs.sheafwinch_ask.Reads as c-ask
-use Rattle.capi.proofs.sheafwinch_ask_equal.Reads as c-ask-equal
+use Rattle.capi.proofs.sheafwinch_open.Reads as c-open
+use Rattle.capi.proofs.sheafwinch_open_equal.Reads as c-open-equal
 use Rattle.capi.proofs.sheafwinch_work.Reads as c-work
 use Rattle.capi.proofs.sheafwinch_abandon.Reads as c-abandon
 use Rattle.capi.proofs.sheafwinch_entry.Reads as c-entry
@@ -36,7 +36,7 @@ use Rattle.capi.proofs.sheafwinch_resolve.Reads as c-resolve
 use Rattle.capi.proofs.sheafwinch_from_left.Reads as c-from-left
 use Rattle.capi.proofs.sheafwinch_at_once.Reads as c-at-once
 use Rattle.sheafwinch.proofs.Settled.{Settles, SettlesAll}
-pub use Rattle.sheafwinch.proofs.Settled.{start-settled, make-variable-settled, make-primitive-settled, make-list-settled, make-lambda-settled, make-attrset-settled, make-named-settled, make-neg-settled, make-inter-settled, make-union-settled, mark-settled, put-bound-settled, enter-settled, exit-settled, set-level-settled, ask-settled, ask-equal-settled, work-settled, abandon-settled, entry-settled, record-settled, disjoint-settled}
+pub use Rattle.sheafwinch.proofs.Settled.{start-settled, make-variable-settled, make-primitive-settled, make-list-settled, make-lambda-settled, make-attrset-settled, make-named-settled, make-neg-settled, make-inter-settled, make-union-settled, mark-settled, put-bound-settled, enter-settled, exit-settled, set-level-settled, open-settled, open-equal-settled, work-settled, abandon-settled, entry-settled, record-settled, disjoint-settled}
 pub use Rattle.names.proofs.Settled.{check-settled, check-name-settled, count-settled, compare-settled, compare-parts-settled, find-settled, place-settled, show-settled}
 pub use Rattle.operators.proofs.Settled.{resolve-settled, from-left-settled, at-once-settled}
 
@@ -85,11 +85,11 @@ c-exit-settled κs a x y e f p q = (p .0 ∙ sym (q .0), p .1 ∙ sym (q .1))
 pub c-set-level-settled : SettlesAll c-set-level.Post
 c-set-level-settled κs a x y e f p q = (p .0 ∙ sym (q .0), p .1 ∙ sym (q .1))
 
-pub c-ask-settled : SettlesAll c-ask.Post
-c-ask-settled κs a x y e f p q = (p .0 ∙ sym (q .0), p .1 ∙ sym (q .1))
+pub c-open-settled : SettlesAll c-open.Post
+c-open-settled κs a x y e f p q = (p .0 ∙ sym (q .0), p .1 ∙ sym (q .1))
 
-pub c-ask-equal-settled : SettlesAll c-ask-equal.Post
-c-ask-equal-settled κs a x y e f p q = (p .0 ∙ sym (q .0), p .1 ∙ sym (q .1))
+pub c-open-equal-settled : SettlesAll c-open-equal.Post
+c-open-equal-settled κs a x y e f p q = (p .0 ∙ sym (q .0), p .1 ∙ sym (q .1))
 
 pub c-work-settled : SettlesAll c-work.Post
 c-work-settled κs a x y e f p q = (p .0 ∙ sym (q .0), p .1 ∙ sym (q .1))

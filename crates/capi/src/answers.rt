@@ -21,7 +21,7 @@ use names::Placed;
 use operators::Resolved;
 ghost use mathlib.Core.Path.{_≡_};
 ghost use mathlib.Core.List.{[], _∷_};
-ghost use Rattle.model.specs.Told.{done, bit, toldRefusal, toldUnopened, toldFailure, toldReply, toldMade, toldAnswer, toldOpening, stepsOf, toldAttrset, toldEntry, toldEntryRead, toldRecord, toldDisjointness};
+ghost use Rattle.model.specs.Told.{done, bit, numberOf, carried, carriedValues, toldRefusal, toldUnopened, toldFailure, toldReply, toldMade, toldAnswer, toldOpening, stepsOf, toldAttrset, toldEntry, toldEntryRead, toldRecord, toldDisjointness};
 ghost use Rattle.names.specs.Answers.{toldCounted, toldOrder, toldCompared, toldFound, toldPlaced};
 ghost use Rattle.operators.specs.Operators.{toldResolved};
 ghost use Rattle.capi.specs.Answers.{answer, answerOf};
@@ -179,38 +179,35 @@ fn none(kind: u32, number: u32, steps: u32) -> Answer
     }
 }
 
+// A refusal of either kind, after so many steps: its number, and what it carries.
+fn numbered(kind: u32, steps: u32, refusal: Refusal) -> Answer
+    ensures { λ r. ⌜ r ≡ answer kind (numberOf refusal) steps (carriedValues (carried refusal)) ⌝ }
+{
+    let number = refusals::number(refusal);
+    match refusals::carried(refusal) {
+        Carried::Nothing => none(kind, number, steps),
+        Carried::Region(region) => one(kind, number, steps, region),
+        Carried::Break {
+            kind: why,
+            sub,
+            sup,
+            name,
+        } => four(kind, number, steps, why, sub, sup, name),
+    }
+}
+
 // A refusal, after so many steps.
 pub fn of_refusal(steps: u32, refusal: Refusal) -> Answer
     ensures { λ r. ⌜ r ≡ answerOf steps (toldRefusal refusal) ⌝ }
 {
-    let number = refusals::number(refusal);
-    match refusals::carried(refusal) {
-        Carried::Nothing => none(REFUSED, number, steps),
-        Carried::Region(region) => one(REFUSED, number, steps, region),
-        Carried::Break {
-            kind,
-            sub,
-            sup,
-            name,
-        } => four(REFUSED, number, steps, kind, sub, sup, name),
-    }
+    numbered(REFUSED, steps, refusal)
 }
 
 // A refusal at the opening.
 fn of_unopened(refusal: Refusal) -> Answer
     ensures { λ r. ⌜ r ≡ answerOf 0 (toldUnopened refusal) ⌝ }
 {
-    let number = refusals::number(refusal);
-    match refusals::carried(refusal) {
-        Carried::Nothing => none(UNOPENED, number, 0),
-        Carried::Region(region) => one(UNOPENED, number, 0, region),
-        Carried::Break {
-            kind,
-            sub,
-            sup,
-            name,
-        } => four(UNOPENED, number, 0, kind, sub, sup, name),
-    }
+    numbered(UNOPENED, 0, refusal)
 }
 
 // A failure, after so many steps.

@@ -10,24 +10,27 @@ use mathlib.Core.Bool.{true, false, not}
 use mathlib.Core.Logic.{_↔_}
 use lib.Dec.{T}
 use Rattle.instalments.specs.Whole.{well, broken, Whole}
+use Rattle.model.specs.Format.{wordEnd}
 use Rattle.model.specs.Table.{Pair, Break, Capacities, Store, tableOf, isAsked, isBroken}
 use Rattle.model.specs.Image.{table}
 use Rattle.model.specs.Formed.{wellFormed}
 use Rattle.model.specs.Rules.{breakOf, rule}
-use Rattle.model.specs.Told.{Told, done, yes, toldRefusal, toldFailure}
-use Rattle.model.specs.Calls.{recorded, pairsOf, brokenBy, asks, works, capacitiesRight, perform}
+use Rattle.model.specs.Told.{Told, yes, toldUnopened, toldFailure}
+use Rattle.model.specs.Calls.{recorded, pairsOf, brokenBy, Call, opens, capacitiesRight, perform}
 use Rattle.model.specs.declared.Question.{Question}
 use Rattle.model.specs.declared.Failure.{Failure}
+use Rattle.model.specs.declared.Refusal.{Refusal}
 use Rattle.model.specs.declared.Refusal.the-variants as R
+use Rattle.laws.specs.Turns.{storedArgument}
 use Rattle.laws.specs.Refusals.{breakAfter, plain}
 use Rattle.laws.proofs.Calls.{call-formed}
-use Rattle.laws.proofs.Runs.{read-as, done-formed}
-use Rattle.laws.proofs.Breaks.{call-keeps-break, failed-asked, failed-fills, failed-broken, same-broken, plain-never-broken, held-refused-exactly}
+use Rattle.laws.proofs.Runs.{read-as}
+use Rattle.laws.proofs.Breaks.{call-keeps-break, failed-formed, failed-fills, failed-broken, same-broken, plain-never-broken, held-refused-exactly}
 use Rattle.demands.specs.Started.{Ours, started, called, firstTold}
-use Rattle.demands.specs.Meets.{Meets, MeetsStart, Later, at-once, later, Run}
+use Rattle.demands.specs.Meets.{Meets, MeetsStart, Later, at-once, later, Course}
 use Rattle.demands.proofs.Started as ours
-use Rattle.demands.proofs.Demand1.{refused-leaves-all}
-use Rattle.demands.proofs.Demand3.{run-formed, asked-in-instalments}
+use Rattle.demands.proofs.Demand1.{opening-leaves-all}
+use Rattle.demands.proofs.Demand3.{unopened-not-failure, opened-in-instalments, course-formed}
 
 -- From the question to its end, however it is worked: the answer is what 01's rules come to from the store as it was and the question's
 -- pairs, and the store after, so its entries, bounds and visited pairs, is theirs; nothing is pending.
@@ -35,34 +38,38 @@ pub record Answered (s : Store) (ps : List Pair) (a : Told) (n : ℕ) (w : List 
   pub to-yes : a ≡ yes → (u : Store) × Whole rule s ps n (well u) × (table w ≡ tableOf u [])
   pub to-failure : (f : Failure) → a ≡ toldFailure f → (u : Store) × Whole rule s ps n (broken f u) × (table w ≡ tableOf u [])
 
-pub question-answered : {bs v u w : List ℕ} {a : Told} {k n : ℕ} (q : Question) → Meets (asks q) v (done []) k u → Run bs u a n w
-    → Answered (recorded q (table v .store)) (reverse (pairsOf q)) a n w
-question-answered {bs} {v} {u} {w} {a} {k} {n} q m run =
-    let f : T (wellFormed u) = rw (m .leaves) (call-formed (asks q) (omega arith) v (done-formed (asks q) v [] (sym (m .tells)))) in
-    let h = run-formed f run in
-    let i = asked-in-instalments q m run in
+yes-not-unopened : (r : Refusal) → _≡_ {A = Told} yes (toldUnopened r) → ⊥
+yes-not-unopened r e = let z : _≡_ {A = ℕ} 0 1 = cc in omega arith
+
+pub question-answered : {bs v w : List ℕ} {a : Told} {n : ℕ} (q : Question) → Course q bs v a n w → Answered (recorded q (table v .store)) (reverse (pairsOf q)) a n w
+question-answered {w = w} {a} q course =
+    let i = opened-in-instalments q course in
     record {
-      to-yes = λ e. let p = i .to-yes e in (p .0, p .1, read-as w (tableOf (p .0) []) h (p .2));
-      to-failure = λ g e. let p = i .to-failure g e in (p .0, p .1, read-as w (tableOf (p .0) []) h (p .2));
+      to-yes = λ e.
+          let p = i .to-yes e in
+          (p .0, p .1, read-as w (tableOf (p .0) []) (course-formed q (λ r g. yes-not-unopened r (sym e ∙ g)) course) (p .2));
+      to-failure = λ f e.
+          let p = i .to-failure f e in
+          (p .0, p .1, read-as w (tableOf (p .0) []) (course-formed q (λ r g. unopened-not-failure r f (sym g ∙ e)) course) (p .2));
     }
 
 -- A plain question is never refused by 8.
-pub plain-not-broken : {v w : List ℕ} {n : ℕ} (q : Question) → q .held ≡ false → (k x y z : ℕ) → Meets (asks q) v (toldRefusal (R.Broken k x y z)) n w → ⊥
-plain-not-broken {v} q p k x y z m = plain-never-broken q v k x y z p (sym (m .tells))
+pub plain-not-broken : {b n : ℕ} {v w : List ℕ} (q : Question) → q .held ≡ false → (k x y z : ℕ) → Meets (opens q b) v (toldUnopened (R.Broken k x y z)) n w → ⊥
+plain-not-broken {b} {v = v} q p k x y z m = plain-never-broken q b v k x y z p (sym (m .tells))
 
 -- A held question of any well formed image that is idle is refused with the break exactly when its kind is not 0.
-pub held-exactly : {v w : List ℕ} {a : Told} {n : ℕ} (q : Question) → q .held ≡ true → T (wellFormed v) → T (not (isAsked (table v))) → Meets (asks q) v a n w
-    → a ≡ toldRefusal (brokenBy (table v .store .broken)) ↔ T (isBroken (table v .store))
-held-exactly {v} q held h idle m =
-    let k = held-refused-exactly q held v h idle in
+pub held-exactly : {b n : ℕ} {v w : List ℕ} {a : Told} (q : Question) → q .held ≡ true → T (wellFormed v) → T (not (isAsked (table v))) → Meets (opens q b) v a n w
+    → a ≡ toldUnopened (brokenBy (table v .store .broken)) ↔ T (isBroken (table v .store))
+held-exactly {b} {v = v} q held h idle m =
+    let k = held-refused-exactly q b held v h idle in
     (λ e. k .0 (sym (m .tells) ∙ e), λ b. m .tells ∙ k .1 b)
 
--- A question that fails leaves a break: the one that was, or its own.
-pub failed-break : {b n : ℕ} {v w : List ℕ} (f : Failure) → Meets (works b) v (toldFailure f) n w
+-- A question that fails, at its opening or in work, leaves a break: the one that was, or its own.
+pub failed-break : {n : ℕ} {v w : List ℕ} (c : Call) → storedArgument c < wordEnd → (f : Failure) → Meets c v (toldFailure f) n w
     → T (wellFormed w) × (table w .store .broken ≡ breakAfter f (table v .store)) × T (isBroken (table w .store))
-failed-break {b} {n} {v} f m =
+failed-break {v = v} c fits f m =
     let e = sym (m .tells) in
-    rw (m .leaves) (call-formed (works b) (omega arith) v (failed-asked b v f e .0), failed-fills b v f e, failed-broken b v f e)
+    rw (m .leaves) (call-formed c fits v (failed-formed c fits v f e), failed-fills c fits v f e, failed-broken c fits v f e)
 
 -- a break that is there stays, whatever is called but start
 abbrev pub BreakStays : List ℕ → List ℕ → Type 0
@@ -76,12 +83,12 @@ break-stays {v} h b (later {u = u} {w = w} c fits m l) =
     rw (m .leaves) (call-formed c fits u (k .0), e ∙ k .1, same-broken (table u .store) (table (perform c u .words) .store) e (k .2))
 
 -- so from a failure on, every held question, where none is asked, is refused with it, until start
-pub held-after-failure : {b n l : ℕ} {v u w x : List ℕ} {a : Told} (f : Failure) → Meets (works b) v (toldFailure f) n u → Later u w → (q : Question) → q .held ≡ true
-    → T (not (isAsked (table w))) → Meets (asks q) w a l x → a ≡ toldRefusal (brokenBy (breakAfter f (table v .store)))
-held-after-failure f m after q held idle p =
-    let k = failed-break f m in
+pub held-after-failure : {b n l : ℕ} {v u w x : List ℕ} {a : Told} (c : Call) → storedArgument c < wordEnd → (f : Failure) → Meets c v (toldFailure f) n u → Later u w
+    → (q : Question) → q .held ≡ true → T (not (isAsked (table w))) → Meets (opens q b) w a l x → a ≡ toldUnopened (brokenBy (breakAfter f (table v .store)))
+held-after-failure c fits f m after q held idle p =
+    let k = failed-break c fits f m in
     let s = break-stays (k .0) (k .2) after in
-    held-exactly q held (s .0) idle p .1 (s .2) ∙ ap (λ (z : Break). toldRefusal (brokenBy z)) (s .1 ∙ k .1)
+    held-exactly q held (s .0) idle p .1 (s .2) ∙ ap (λ (z : Break). toldUnopened (brokenBy z)) (s .1 ∙ k .1)
 
 -- Tables started by us: the image after start, and after any calls.
 pub ours-started : {v w : List ℕ} (names functor : ℕ) (c : Capacities) → T (capacitiesRight names functor c v) → {a : Told} → MeetsStart names functor c v a w → Ours w
@@ -93,14 +100,17 @@ ours-later o (later c fits m l) = subst Ours (sym (m .leaves)) (called c fits (o
 
 -- A held question there, where none is asked: refused with 8 exactly when an earlier question has failed, and with the first failure;
 -- with none, it is the plain question.
-module _ {v w : List ℕ} {a : Told} {n : ℕ} (o : Ours v) (q : Question) (held : q .held ≡ true) (idle : T (not (isAsked (table v)))) (m : Meets (asks q) v a n w) where
-  pub held-carries-first : (f : Failure) → firstTold o ≡ some f → (a ≡ toldRefusal (brokenBy (breakOf f))) × (w ≡ v)
+module _ {b n : ℕ} {v w : List ℕ} {a : Told} (o : Ours v) (q : Question) (held : q .held ≡ true) (idle : T (not (isAsked (table v)))) (m : Meets (opens q b) v a n w) where
+  pub held-carries-first : (f : Failure) → firstTold o ≡ some f → (a ≡ toldUnopened (brokenBy (breakOf f))) × (n ≡ 0) × (w ≡ v)
   held-carries-first f e =
-      let k = m .tells ∙ ours.held-carries-first o q held idle f e in
-      (k, refused-leaves-all (asks q) refl (brokenBy (breakOf f)) (subst (λ (x : Told). Meets (asks q) v x n w) k m))
+      let k = m .tells ∙ ours.held-carries-first o q b held idle f e in
+      let h = opening-leaves-all q (brokenBy (breakOf f)) (subst (λ (x : Told). Meets (opens q b) v x n w) k m) in
+      (k, h .1, h .0)
 
-  pub held-none-failed : firstTold o ≡ none → (a ≡ perform (asks (plain q)) v .says) × (w ≡ perform (asks (plain q)) v .words)
-  held-none-failed e = let k = ours.held-none-failed o q held idle e in (m .tells ∙ ap (λ r. r .says) k, m .leaves ∙ ap (λ r. r .words) k)
+  pub held-none-failed : firstTold o ≡ none → Meets (opens (plain q) b) v a n w
+  held-none-failed e =
+      let k = ours.held-none-failed o q b held idle e in
+      record { tells = m .tells ∙ ap (λ r. r .says) k; counts = m .counts ∙ ap (λ r. r .steps) k; leaves = m .leaves ∙ ap (λ r. r .words) k }
 
-  pub held-refused-failed : (k x y z : ℕ) → a ≡ toldRefusal (R.Broken k x y z) → (f : Failure) × (firstTold o ≡ some f)
-  held-refused-failed k x y z e = ours.held-refused-failed o q held idle k x y z (sym (m .tells) ∙ e)
+  pub held-refused-failed : (k x y z : ℕ) → a ≡ toldUnopened (R.Broken k x y z) → (f : Failure) × (firstTold o ≡ some f)
+  held-refused-failed k x y z e = ours.held-refused-failed o q b held idle k x y z (sym (m .tells) ∙ e)

@@ -1,22 +1,20 @@
 -- What each event of a history does to the break words: over every history they are those of the first failure. Assumes nothing.
-use Prim.Native.Nat.{ℕ}
-use native.Mathlib.Omega.{arith}
 use mathlib.Core.Path.{_≡_, sym, ap, _∙_, subst}
 use mathlib.Core.List.{List, []}
 use mathlib.Core.Option.{Option, none, some}
-use mathlib.Core.Bool.{false, not}
+use mathlib.Core.Bool.{not}
 use lib.Dec.{eqb}
 use Rattle.histories.specs.Histories.{Event, opens, steps, breaks, quits, changes, History, begun, next, firstOf, failure-of, first-failure}
 use Rattle.histories.proofs.Worked.{first-none}
 use Rattle.model.specs.Format.{unbroken}
-use Rattle.model.specs.Table.{Pair, Store, Table, tableOf, stateOf, isAsked, isBroken}
+use Rattle.model.specs.Table.{Pair, Store, Table, tableOf, isBroken}
 use Rattle.model.specs.Rules.{breakOf, rule}
-use Rattle.model.specs.Calls.{Turn, leave, provided, emptyTable, opened, workTurn, Call, works, turnOf}
+use Rattle.model.specs.Calls.{Turn, emptyTable, opened}
 use Rattle.model.specs.declared.Failure.{Failure}
 use Rattle.laws.specs.Turns.{Spares, Plainly}
-use Rattle.laws.specs.Refusals.{isWork, breakAfter}
+use Rattle.laws.specs.Refusals.{breakAfter}
 use Rattle.laws.proofs.Tests.{true-of}
-use Rattle.laws.proofs.Refused.{record-spares, plainly, by-call}
+use Rattle.laws.proofs.Refused.{record-spares, plainly}
 use Rattle.laws.proofs.Breaks.{goes-break, fails-break, break-kind}
 use Rattle.demands.specs.Started.{Changed, modelCalls, StorePast, breakBy}
 
@@ -28,17 +26,7 @@ after-first (some f) g s e = rw (e, true-of (not (eqb (breakOf f .kind) unbroken
 
 -- a call that finds a table idle and leaves it so
 pub changed-spares : (s u : Store) → Changed s u → Spares (tableOf s []) (tableOf u [])
-unfolding turnOf workTurn provided isAsked stateOf
-changed-spares s u h = by-call P other work (h .call) (h .leaves)
-  where
-    P : Call → Type 0
-    P c = turnOf c (h .words) (tableOf s []) ≡ leave (h .told) (h .steps) (tableOf u []) → Spares (tableOf s []) (tableOf u [])
-
-    other : (c : Call) → isWork c ≡ false → P c
-    other c n e = subst (λ (turn : Turn). Plainly (tableOf s []) turn) e (plainly c n (h .words) (tableOf s [])) .2
-
-    work : (b : ℕ) → P (works b)
-    work b e = let z : _≡_ {A = ℕ} 0 1 = cc in absurd (omega arith)
+changed-spares s u h = subst (λ (turn : Turn). Plainly (tableOf s []) turn) (h .leaves) (plainly (h .call) (h .plain) (h .words) (tableOf s [])) .2
 
 kept : (o : Option Failure) → breakBy o ≡ breakBy (firstOf o none)
 kept o = ap breakBy (sym (first-none o))

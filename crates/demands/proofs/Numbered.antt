@@ -9,14 +9,14 @@ use Rattle.model.specs.Table.{Pair, Store, Table, isAsked}
 use Rattle.model.specs.Image.{table}
 use Rattle.model.specs.Rules.{rule}
 use Rattle.model.specs.Room.{room}
-use Rattle.model.specs.Told.{Told, done, yes, more, failed, refused, toldRefusal, toldFailure}
-use Rattle.model.specs.Calls.{Response, Turn, refuse, tell, leave, responseOf, workedTurn, workTurn, Call, turnOf, perform}
+use Rattle.model.specs.Told.{Told, done, yes, more, failed, refused, unopened, toldRefusal, toldFailure, toldUnopened}
+use Rattle.model.specs.Calls.{Response, Turn, refuse, tell, leave, responseOf, askTurn, workedTurn, workTurn, thenWork, openTurn, Call, denies, turnOf, perform}
 use Rattle.model.specs.declared.Failure.{Failure}
 use Rattle.model.specs.declared.Failure.the-variants.{Mismatch, MissingField}
 use Rattle.model.specs.declared.Refusal.{Refusal}
 use Rattle.laws.specs.Turns.{IsDone, Plainly}
-use Rattle.laws.proofs.Replies.{by-provided, by-admission}
-use Rattle.laws.proofs.Refused.{plainly, by-call}
+use Rattle.laws.proofs.Replies.{by-provided, by-admission, by-denial}
+use Rattle.laws.proofs.Refused.{asking, plainly, by-call}
 
 abbrev pub Numbered : Told → Type 0
 Numbered (done l) = Unit {0}
@@ -24,6 +24,7 @@ Numbered yes = Unit {0}
 Numbered more = Unit {0}
 Numbered (failed n l) = (f : Failure) × (failed n l ≡ toldFailure f)
 Numbered (refused n l) = (r : Refusal) × (refused n l ≡ toldRefusal r)
+Numbered (unopened n l) = (r : Refusal) × (unopened n l ≡ toldUnopened r)
 
 failure-numbered : (f : Failure) → Numbered (toldFailure f)
 failure-numbered (Mismatch sub sup) = (Mismatch sub sup, refl)
@@ -35,6 +36,7 @@ done-numbered yes h = tt
 done-numbered more h = tt
 done-numbered (failed n l) h = absurd h
 done-numbered (refused n l) h = absurd h
+done-numbered (unopened n l) h = absurd h
 
 -- a turn, by what it says
 abbrev Says : Turn → Type 0
@@ -54,11 +56,21 @@ worked-says budget (answered (fail-in k f u)) = failure-numbered f
 worked-says budget (answered (more-at u q)) = tt
 worked-says budget (refused-in k w u q) = (w, refl)
 
+work-says : (budget : ℕ) (t : Table) → Says (workTurn budget t)
+unfolding workTurn
+work-says budget t = by-provided Says (isAsked t) (λ h. tt) (λ h. worked-says budget (machine.work rule room budget (t .store) (t .pending)))
+
+then-says : (budget : ℕ) (turn : Turn) → Says turn → Says (thenWork budget turn)
+unfolding thenWork
+then-says budget (refuse r) h = (r, refl)
+then-says budget (tell a) h = h
+then-says budget (leave a k u) h = work-says budget u
+
 turn-says : (c : Call) (ws : List ℕ) (t : Table) → Says (turnOf c ws t)
-unfolding turnOf workTurn
+unfolding turnOf openTurn
 turn-says c ws t =
     by-call (λ (d : Call). Says (turnOf d ws t)) (λ d n. plain-says t (turnOf d ws t) (plainly d n ws t))
-    (λ b. by-provided Says (isAsked t) (λ h. tt) (λ h. worked-says b (machine.work rule room b (t .store) (t .pending)))) c
+    (λ q b. then-says b (askTurn q t) (plain-says t (askTurn q t) (asking t q))) (λ b. work-says b t) c
 
 reply-says : (ws : List ℕ) (turn : Turn) → Says turn → Numbered (responseOf ws turn .says)
 unfolding responseOf
@@ -68,5 +80,5 @@ reply-says ws (leave a k u) h = h
 
 pub numbered : (c : Call) (ws : List ℕ) → Numbered (perform c ws .says)
 numbered c ws =
-    by-admission (λ (r : Response). Numbered (r .says)) c ws (λ r h. reply-says ws (refuse r) tt)
+    by-admission (λ (r : Response). Numbered (r .says)) c ws (λ r h. reply-says ws (tell (denies c r)) (by-denial Numbered c r (r, refl) (r, refl)))
     (λ h. reply-says ws (turnOf c ws (table ws)) (turn-says c ws (table ws)))

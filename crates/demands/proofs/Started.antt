@@ -4,7 +4,7 @@ use Prim.Native.Nat.{ℕ, _<_}
 use mathlib.Core.Path.{_≡_, refl, sym, ap, _∙_, subst}
 use mathlib.Core.List.{List, [], _∷_}
 use mathlib.Core.Option.{Option, none, some}
-use mathlib.Core.Bool.{true, not}
+use mathlib.Core.Bool.{true, not, false}
 use mathlib.Core.Logic.{_↔_}
 use lib.Dec.{T}
 use Rattle.instalments.specs.Machine.{yes-in, fail-in, more-at, Roomed, answered, refused-in}
@@ -18,8 +18,9 @@ use Rattle.model.specs.Image.{words, table}
 use Rattle.model.specs.Formed.{wellFormed}
 use Rattle.model.specs.Rules.{breakOf, rule}
 use Rattle.model.specs.Room.{room}
-use Rattle.model.specs.Told.{Told, done, yes, more, failed, refused, toldRefusal, toldFailure}
-use Rattle.model.specs.Calls.{Turn, refuse, tell, leave, responseOf, provided, emptyTable, capacitiesRight, start, brokenBy, workedTurn, workTurn, Call, asks, works, turnOf, perform}
+use Rattle.model.specs.Told.{Told, done, yes, more, failed, refused, toldRefusal, toldFailure, unopened, toldUnopened}
+use Rattle.model.specs.Calls.{Turn, refuse, tell, leave, responseOf, provided, emptyTable, capacitiesRight, start, brokenBy, askTurn, workedTurn, workTurn, thenWork, openTurn, Call, turnOf, perform}
+use Rattle.model.specs.Calls as model
 use Rattle.model.specs.declared.Question.{Question}
 use Rattle.model.specs.declared.Failure.{Failure}
 use Rattle.model.specs.declared.Failure.the-variants.{Mismatch, MissingField}
@@ -27,14 +28,15 @@ use Rattle.model.specs.declared.Refusal.{Refusal}
 use Rattle.model.specs.declared.Refusal.the-variants as R
 use Rattle.laws.specs.Turns.{TurnSound, storedArgument, Way, IsDone, Plainly}
 use Rattle.laws.specs.Turns as way
-use Rattle.laws.specs.Refusals.{plain, performAll, AllFit}
+use Rattle.laws.specs.Refusals.{takesSteps, plain, performAll, AllFit}
 use Rattle.laws.proofs.Tests.{true-of}
 use Rattle.laws.proofs.Replies.{by-provided, perform-formed}
 use Rattle.laws.proofs.Formed.{sound-table}
 use Rattle.laws.proofs.Calls.{turn-sound, read-back, call-formed, start-formed}
-use Rattle.laws.proofs.Refused.{plainly, by-call}
+use Rattle.laws.proofs.Refused.{idle-pending, plainly, by-call}
+use Rattle.laws.proofs.Questions.{Asks, ask-turn}
 use Rattle.laws.proofs.Runs.{formed-back}
-use Rattle.laws.proofs.Breaks.{break-kind, held-refused, ask-refused-broken, held-as-plain}
+use Rattle.laws.proofs.Breaks.{break-kind, held-refused, refused-broken, held-as-plain}
 use Rattle.demands.specs.Started.{modelCalls, StorePast, Ours, started, called, failureIn, firstTold, breakBy}
 use Rattle.demands.proofs.Events.{past-break}
 
@@ -51,6 +53,7 @@ done-tells-none yes h = refl
 done-tells-none more h = refl
 done-tells-none (failed n l) h = absurd h
 done-tells-none (refused n l) h = refl
+done-tells-none (unopened n l) h = refl
 
 -- what a turn leaves has a past, with the failure that it tells
 abbrev LeavesPast : Option Failure → Turn → Type 0
@@ -59,23 +62,23 @@ LeavesPast o (tell a) = failureIn a ≡ none
 LeavesPast o (leave a k u) = StorePast (firstOf o (failureIn a)) (u .store) (u .pending)
 
 module _ {o : Option Failure} (t : Table) (h : StorePast o (t .store) (t .pending)) where
-  by-way : (c : Call) (ws : List ℕ) (a : Told) (k : ℕ) (u : Table) → turnOf c ws t ≡ leave a k u → Way t u → StorePast o (u .store) (u .pending)
+  by-way : (c : Call) → takesSteps c ≡ false → (ws : List ℕ) (a : Told) (k : ℕ) (u : Table) → turnOf c ws t ≡ leave a k u → Way t u → StorePast o (u .store) (u .pending)
   unfolding failure-of
-  by-way c ws a k u e (way.opens q n d) = past-on rule modelCalls h (opens n (q, sym d)) refl
-  by-way c ws a k u e (way.quits d) = past-on rule modelCalls h (quits (ap (λ (x : Table). x .store) d) (ap (λ (x : Table). x .pending) d)) refl
-  by-way c ws a k u e (way.changes n m) =
+  by-way c p ws a k u e (way.asks q n d) = past-on rule modelCalls h (opens n (q, sym d)) refl
+  by-way c p ws a k u e (way.quits d) = past-on rule modelCalls h (quits (ap (λ (x : Table). x .store) d) (ap (λ (x : Table). x .pending) d)) refl
+  by-way c p ws a k u e (way.changes n m) =
       let f : turnOf c ws (tableOf (t .store) []) ≡ leave a k u = subst (λ (q : List Pair). turnOf c ws (tableOf (t .store) q) ≡ leave a k u) n e in
       let g : turnOf c ws (tableOf (t .store) []) ≡ leave a k (tableOf (u .store) []) = subst (λ (q : List Pair). turnOf c ws (tableOf (t .store) []) ≡ leave a k (tableOf (u .store) q)) m f in
-      past-on rule modelCalls h (changes (record { call = c; words = ws; told = a; steps = k; leaves = g }) n m) refl
+      past-on rule modelCalls h (changes (record { call = c; plain = p; words = ws; told = a; steps = k; leaves = g }) n m) refl
 
   -- what is told is no failure
   no-failure : (x : Option Failure) (s : Store) (ps : List Pair) → x ≡ none → StorePast o s ps → StorePast (firstOf o x) s ps
   no-failure x s ps e k = subst (λ (y : Option Failure). StorePast y s ps) (sym (ap (firstOf o) e ∙ first-none o)) k
 
-  plain-on : (c : Call) (ws : List ℕ) (turn : Turn) → turnOf c ws t ≡ turn → Plainly t turn → LeavesPast o turn
-  plain-on c ws (refuse r) e p = tt
-  plain-on c ws (tell a) e p = done-tells-none a p
-  plain-on c ws (leave a k u) e p = no-failure (failureIn a) (u .store) (u .pending) (done-tells-none a (p .0)) (by-way c ws a k u e (p .2 .way))
+  plain-on : (c : Call) → takesSteps c ≡ false → (ws : List ℕ) (turn : Turn) → turnOf c ws t ≡ turn → Plainly t turn → LeavesPast o turn
+  plain-on c d ws (refuse r) e p = tt
+  plain-on c d ws (tell a) e p = done-tells-none a p
+  plain-on c d ws (leave a k u) e p = no-failure (failureIn a) (u .store) (u .pending) (done-tells-none a (p .0)) (by-way c d ws a k u e (p .2 .way))
 
   worked-on : (budget : ℕ) (x : Roomed Store Pair Failure Refusal) → Kept (StorePast o) (λ f u. StorePast (firstOf o (some f)) u []) x → LeavesPast o (workedTurn budget x)
   unfolding workedTurn failureIn
@@ -84,15 +87,25 @@ module _ {o : Option Failure} (t : Table) (h : StorePast o (t .store) (t .pendin
   worked-on budget (answered (more-at u q)) j = no-failure none u q refl j
   worked-on budget (refused-in k w u q) j = no-failure none u q refl j
 
-  -- every call
-  turn-on : (c : Call) (ws : List ℕ) → LeavesPast o (turnOf c ws t)
-  unfolding turnOf workTurn
-  turn-on c ws = by-call (λ (d : Call). LeavesPast o (turnOf d ws t)) (λ d n. plain-on d ws (turnOf d ws t) refl (plainly d n ws t)) work c
-    where
-      work : (b : ℕ) → LeavesPast o (turnOf (works b) ws t)
-      work b =
-          by-provided (LeavesPast o) (isAsked t) (λ k. tt)
-          (λ k. worked-on b (machine.work rule room b (t .store) (t .pending)) (work-history rule modelCalls room b (t .store) (t .pending) h))
+  work-on : (budget : ℕ) → LeavesPast o (workTurn budget t)
+  unfolding workTurn
+  work-on budget =
+      by-provided (LeavesPast o) (isAsked t) (λ k. tt)
+      (λ k. worked-on budget (machine.work rule room budget (t .store) (t .pending)) (work-history rule modelCalls room budget (t .store) (t .pending) h))
+
+-- a question opened, and then worked
+opening-on : {o : Option Failure} (t : Table) → StorePast o (t .store) (t .pending) → (q : Question) (budget : ℕ) (turn : Turn) → Asks q t turn → LeavesPast o (thenWork budget turn)
+unfolding thenWork failureIn failure-of
+opening-on t h q budget (refuse r) k = refl
+opening-on t h q budget (tell a) k = absurd k
+opening-on t h q budget (leave a i u) k = work-on u (past-on rule modelCalls h (opens (idle-pending t (k .3)) (q, sym (k .2))) refl) budget
+
+-- every call
+turn-on : {o : Option Failure} (t : Table) → StorePast o (t .store) (t .pending) → (c : Call) (ws : List ℕ) → LeavesPast o (turnOf c ws t)
+unfolding turnOf openTurn
+turn-on {o} t h c ws =
+    by-call (λ (d : Call). LeavesPast o (turnOf d ws t)) (λ d n. plain-on t h d n ws (turnOf d ws t) refl (plainly d n ws t))
+    (λ q b. opening-on t h q b (askTurn q t) (ask-turn q t)) (work-on t h) c
 
 -- in the words
 abbrev pub ImagePast : Option Failure → List ℕ → Type 0
@@ -144,24 +157,24 @@ ours-break o = past-break (ours-past o)
 
 -- A held question, where none is asked: refused with 8 exactly when an earlier question has failed; the refusal carries the first
 -- failure; and with none it is the plain question.
-module _ {ws : List ℕ} (o : Ours ws) (q : Question) (held : q .held ≡ true) (idle : T (not (isAsked (table ws)))) where
-  pub held-carries-first : (f : Failure) → firstTold o ≡ some f → perform (asks q) ws .says ≡ toldRefusal (brokenBy (breakOf f))
+module _ {ws : List ℕ} (o : Ours ws) (q : Question) (b : ℕ) (held : q .held ≡ true) (idle : T (not (isAsked (table ws)))) where
+  pub held-carries-first : (f : Failure) → firstTold o ≡ some f → perform (model.opens q b) ws .says ≡ toldUnopened (brokenBy (breakOf f))
   unfolding breakBy isBroken
   held-carries-first f e =
-      let b : table ws .store .broken ≡ breakOf f = ours-break o ∙ ap breakBy e in
-      held-refused q held ws (ours-formed o) idle (rw b (break-kind f)) ∙ ap (λ (k : Break). toldRefusal (brokenBy k)) b
+      let k : table ws .store .broken ≡ breakOf f = ours-break o ∙ ap breakBy e in
+      held-refused q b held ws (ours-formed o) idle (rw k (break-kind f)) ∙ ap (λ (x : Break). toldUnopened (brokenBy x)) k
 
-  pub held-none-failed : firstTold o ≡ none → perform (asks q) ws ≡ perform (asks (plain q)) ws
+  pub held-none-failed : firstTold o ≡ none → perform (model.opens q b) ws ≡ perform (model.opens (plain q) b) ws
   unfolding breakBy isBroken
-  held-none-failed e = held-as-plain q ws (rw (ours-break o ∙ ap breakBy e))
+  held-none-failed e = held-as-plain q b ws (rw (ours-break o ∙ ap breakBy e))
 
   no-break : firstTold o ≡ none → T (isBroken (table ws .store)) → ⊥
   unfolding breakBy isBroken
   no-break e h = rw (ours-break o ∙ ap breakBy e) at h
 
-  pub held-refused-failed : (k x y n : ℕ) → perform (asks q) ws .says ≡ toldRefusal (R.Broken k x y n) → (f : Failure) × (firstTold o ≡ some f)
+  pub held-refused-failed : (k x y n : ℕ) → perform (model.opens q b) ws .says ≡ toldUnopened (R.Broken k x y n) → (f : Failure) × (firstTold o ≡ some f)
   held-refused-failed k x y n e = which (firstTold o) refl
     where
       which : (a : Option Failure) → firstTold o ≡ a → (f : Failure) × (firstTold o ≡ some f)
       which (some f) d = (f, d)
-      which none d = absurd (no-break d (ask-refused-broken q ws k x y n e .broken))
+      which none d = absurd (no-break d (refused-broken q b ws k x y n e .broken))

@@ -11,7 +11,8 @@ use Rattle.model.specs.Table.{Pair, Capacities, Store, tableOf}
 use Rattle.model.specs.Image.{words, table}
 use Rattle.model.specs.Rules.{rule}
 use Rattle.model.specs.Told.{Told, yes, more, toldRefusal, toldFailure}
-use Rattle.model.specs.Calls.{Call, works, start, perform}
+use Rattle.model.specs.Calls.{Call, opens, works, start, perform}
+use Rattle.model.specs.declared.Question.{Question}
 use Rattle.model.specs.declared.Failure.{Failure}
 use Rattle.model.specs.declared.Refusal.{Refusal}
 use Rattle.laws.specs.Demands.{isMore}
@@ -39,8 +40,13 @@ pub data Run : (budgets before : List ℕ) → Told → (steps : ℕ) → (after
   ends : {bs v w : List ℕ} {a : Told} {n : ℕ} (b : ℕ) → Meets (works b) v a n w → isMore a ≡ false → Run (b ∷ bs) v a n w
   goes-on : {bs v u w : List ℕ} {a : Told} {n m : ℕ} (b : ℕ) → Meets (works b) v more n u → Run bs u a m w → Run (b ∷ bs) v a (n + m) w
 
+-- a question from its opening on, which is its first instalment: the first budget is the opening's, the others are of calls of work
+pub data Course (q : Question) : (budgets before : List ℕ) → Told → (steps : ℕ) → (after : List ℕ) → Type 0 where
+  at-opening : {bs v w : List ℕ} {a : Told} {n : ℕ} (b : ℕ) → Meets (opens q b) v a n w → isMore a ≡ false → Course q (b ∷ bs) v a n w
+  worked-on : {bs v u w : List ℕ} {a : Told} {n m : ℕ} (b : ℕ) → Meets (opens q b) v more n u → Run bs u a m w → Course q (b ∷ bs) v a (n + m) w
+
 -- Demand 3 in the customer's words: a question that began with the store `s` and the pairs `ps`, in the order in which they are worked,
--- after a run that answered `a`, took `n` steps and left the words `w`.
+-- after instalments that answered `a`, took `n` steps and left the words `w`.
 pub record Instalments (budgets : List ℕ) (s : Store) (ps : List Pair) (a : Told) (n : ℕ) (w : List ℕ) : Type 0 where
   -- yes, or a failure: the rules without a pause end so, in as many steps, and every word is theirs
   pub to-yes : a ≡ yes → (u : Store) × Whole rule s ps n (well u) × (w ≡ words (tableOf u []))

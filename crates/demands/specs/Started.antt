@@ -12,16 +12,18 @@ use Rattle.model.specs.Format.{wordEnd, unbroken, mismatched}
 use Rattle.model.specs.Table.{Pair, Break, Capacities, Store, tableOf}
 use Rattle.model.specs.Lists.{any}
 use Rattle.model.specs.Rules.{samePair, breakOf, rule}
-use Rattle.model.specs.Told.{Told, done, yes, more, failed, refused}
+use Rattle.model.specs.Told.{Told, done, yes, more, failed, refused, unopened}
 use Rattle.model.specs.Calls.{leave, emptyTable, capacitiesRight, start, opened, Call, turnOf, perform}
 use Rattle.model.specs.declared.Question.{Question}
 use Rattle.model.specs.declared.Failure.{Failure}
 use Rattle.model.specs.declared.Failure.the-variants as F
 use Rattle.laws.specs.Turns.{storedArgument}
+use Rattle.laws.specs.Refusals.{takesSteps}
 
--- a call that found a table idle and left it so
+-- a call that takes no step, found a table idle and left it so
 pub record Changed (s u : Store) : Type 0 where
   pub call : Call
+  pub plain : takesSteps call ≡ false
   pub words : List ℕ
   pub told : Told
   pub steps : ℕ
@@ -60,6 +62,7 @@ failureIn yes = none
 failureIn more = none
 failureIn (failed n l) = some (cond (eqb n mismatched) (F.Mismatch (getD l 0 0) (getD l 1 0)) (F.MissingField (getD l 0 0) (getD l 1 0) (getD l 2 0)))
 failureIn (refused n l) = none
+failureIn (unopened n l) = none
 
 -- the first failure that a call told
 unfoldable pub firstTold : {ws : List ℕ} → Ours ws → Option Failure

@@ -3,13 +3,14 @@
 use Prim.Native.Nat.{ℕ}
 use mathlib.Core.Path.{_≡_, ap, subst}
 use mathlib.Core.List.{List}
-use mathlib.Core.Bool.{Bool, true, false, not}
+use mathlib.Core.Bool.{Bool, true, false, not, cond}
 use lib.Dec.{T, eqb→eq}
 use Rattle.model.specs.Image.{table}
 use Rattle.model.specs.Formed.{wellFormed}
-use Rattle.model.specs.Calls.{Response, Turn, refuse, responseOf, admission, admitted, onTable, provided, Call, turnOf, perform}
-use Rattle.model.specs.Told.{Told, numberOf, toldRefusal}
+use Rattle.model.specs.Calls.{Response, Turn, refuse, tell, responseOf, admission, admitted, onTable, provided, openTurn, Call, opens, isOpening, denies, turnOf, perform}
+use Rattle.model.specs.Told.{Told, numberOf, toldRefusal, toldUnopened}
 use Rattle.model.proofs.OneToOne.{refusal-one-to-one}
+use Rattle.model.specs.declared.Question.{Question}
 use Rattle.model.specs.declared.Refusal.{Refusal}
 use Rattle.model.specs.declared.Admission.{Admission}
 use Rattle.model.specs.declared.Admission.the-variants.{Good, Unfit}
@@ -51,29 +52,41 @@ pub perform-formed : (c : Call) (ws : List ℕ) → T (wellFormed ws) → perfor
 unfolding perform onTable admitted
 perform-formed c ws h = rw (formed-good ws h)
 
-pub perform-unfit : (c : Call) (ws : List ℕ) (r : Refusal) → admission ws ≡ Unfit r → perform c ws ≡ responseOf ws (refuse r)
+pub perform-unfit : (c : Call) (ws : List ℕ) (r : Refusal) → admission ws ≡ Unfit r → perform c ws ≡ responseOf ws (tell (denies c r))
 unfolding perform onTable admitted
 perform-unfit c ws r e = rw e
 
-pub same-turn : (c d : Call) (ws : List ℕ) → turnOf c ws (table ws) ≡ turnOf d ws (table ws) → perform c ws ≡ perform d ws
-unfolding perform onTable
-same-turn c d ws e = ap (λ (turn : Turn). responseOf ws (admitted (admission ws) turn)) e
+-- questions that open alike
+pub same-opening : (q p : Question) (b : ℕ) (ws : List ℕ) → openTurn q b (table ws) ≡ openTurn p b (table ws) → perform (opens q b) ws ≡ perform (opens p b) ws
+unfolding perform onTable turnOf
+same-opening q p b ws e = ap (λ (turn : Turn). responseOf ws (admitted toldUnopened (admission ws) turn)) e
 
-by-fitness : (P : Turn → Type 0) (ws : List ℕ) (turn : Turn) → ((r : Refusal) → T (ofImage r) → P (refuse r)) → (T (wellFormed ws) → P turn)
-    → (a : Admission) → Admits ws a → P (admitted a turn)
+pub by-fitness : (P : Turn → Type 0) (denied : Refusal → Told) (ws : List ℕ) (turn : Turn) → ((r : Refusal) → T (ofImage r) → P (tell (denied r))) → (T (wellFormed ws) → P turn)
+    → P (admitted denied (admission ws) turn)
 unfolding admitted
-by-fitness P ws turn f g Good h = g h
-by-fitness P ws turn f g (Unfit r) h = f r (h .1)
+by-fitness P denied ws turn f g = fitness (admission ws) (admits ws)
+  where
+    fitness : (a : Admission) → Admits ws a → P (admitted denied a turn)
+    fitness Good h = g h
+    fitness (Unfit r) h = f r (h .1)
 
-pub by-admission : (P : Response → Type 0) (c : Call) (ws : List ℕ) → ((r : Refusal) → T (ofImage r) → P (responseOf ws (refuse r)))
+pub by-admission : (P : Response → Type 0) (c : Call) (ws : List ℕ) → ((r : Refusal) → T (ofImage r) → P (responseOf ws (tell (denies c r))))
     → (T (wellFormed ws) → P (responseOf ws (turnOf c ws (table ws)))) → P (perform c ws)
 unfolding perform onTable
-by-admission P c ws f g = by-fitness (λ (turn : Turn). P (responseOf ws turn)) ws (turnOf c ws (table ws)) f g (admission ws) (admits ws)
+by-admission P c ws f g = by-fitness (λ (turn : Turn). P (responseOf ws turn)) (denies c) ws (turnOf c ws (table ws)) f g
 
 -- what a call says but a refusal of the image, it says of a well formed one
-pub said-formed : (c : Call) (ws : List ℕ) (a : Told) → ((r : Refusal) → T (ofImage r) → toldRefusal r ≡ a → ⊥) → perform c ws .says ≡ a → T (wellFormed ws)
+pub said-formed : (c : Call) (ws : List ℕ) (a : Told) → ((r : Refusal) → T (ofImage r) → denies c r ≡ a → ⊥) → perform c ws .says ≡ a → T (wellFormed ws)
 unfolding responseOf
 said-formed c ws a n = by-admission (λ (r : Response). r .says ≡ a → T (wellFormed ws)) c ws (λ r h e. absurd (n r h e)) (λ h e. h)
+
+-- a refusal of the image is told as a refusal, or as one at the opening
+pub by-denial : (P : Told → Type 0) (c : Call) (r : Refusal) → P (toldRefusal r) → P (toldUnopened r) → P (denies c r)
+by-denial P c r h k = denied (isOpening c)
+  where
+    denied : (t : Bool) → P (cond t (toldUnopened r) (toldRefusal r))
+    denied true = k
+    denied false = h
 
 -- refusals that a test tells apart are told differently
 pub other-refusal : (f : Refusal → Bool) (r w : Refusal) → T (f r) → f w ≡ false → toldRefusal r ≡ toldRefusal w → ⊥

@@ -7,7 +7,7 @@ use lib.ListN.{length, getD, take, drop}
 use lib.Dec.{eqb, leb, ltb}
 use Rattle.model.specs.Lists.{allOf}
 use Rattle.model.specs.Format.{namesMost}
-use Rattle.model.specs.Told.{Told, done, yes, more, failed, refused, toldRefusal}
+use Rattle.model.specs.Told.{Told, done, yes, more, failed, refused, unopened, toldRefusal}
 use Rattle.model.specs.declared.Refusal.the-variants.{BadNumber, BadNames}
 
 -- "A name list is bytes: count (u16, little endian), count+1 offsets (u16) into the name bytes, then the bytes."
@@ -143,6 +143,7 @@ accepted yes = false
 accepted more = false
 accepted (failed n vs) = false
 accepted (refused n vs) = false
+accepted (unopened n vs) = false
 
 unfoldable pub showName : List ℕ → ℕ → List ℕ
 showName bs n = cond (accepted (checkName bs n)) (nameOf bs n) []

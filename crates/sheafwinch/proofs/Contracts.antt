@@ -6,9 +6,10 @@ use Prim.Native.Nat.{ℕ}
 use mathlib.Core.Path.{refl}
 use mathlib.Core.List.{List}
 use denote.Ref.{RefT}
-use Rattle.model.specs.Calls.{Call, makesVariable, makesPrimitive, makesList, makesLambda, makesAttrset, makesNamed, makesNeg, makesInter, makesUnion, marks, putsBound, enters, exits, setsLevel, under, bothWays, asks, works, abandons}
-use Rattle.model.specs.Told.{Told, toldMade, toldReply, toldAnswer}
+use Rattle.model.specs.Calls.{Call, makesVariable, makesPrimitive, makesList, makesLambda, makesAttrset, makesNamed, makesNeg, makesInter, makesUnion, marks, putsBound, enters, exits, setsLevel, under, bothWays, opens, works, abandons}
+use Rattle.model.specs.Told.{Told, toldMade, toldReply, toldAnswer, toldOpening, stepsOf}
 use Rattle.model.specs.declared.Instalment.{Instalment}
+use Rattle.model.specs.declared.Opening.{Opening}
 use Rattle.model.specs.declared.Reply.{Reply}
 use Rattle.image.specs.Stores.{capacitiesOf}
 use Rattle.demands.specs.Meets.{Meets, MeetsStart}
@@ -29,8 +30,8 @@ use Rattle.sheafwinch.proofs.put_bound.Reads as put-bound
 use Rattle.sheafwinch.proofs.enter.Reads as enter
 use Rattle.sheafwinch.proofs.exit.Reads as exit
 use Rattle.sheafwinch.proofs.set_level.Reads as set-level
-use Rattle.sheafwinch.proofs.ask.Reads as ask
-use Rattle.sheafwinch.proofs.ask_equal.Reads as ask-equal
+use Rattle.sheafwinch.proofs.open.Reads as open-call
+use Rattle.sheafwinch.proofs.open_equal.Reads as open-equal
 use Rattle.sheafwinch.proofs.abandon.Reads as abandon
 
 -- a contract under which every outcome meets the call with these arguments
@@ -84,15 +85,18 @@ exit-met κs a x e p = meets (exits) refl (p .0) (p .1)
 pub set-level-met : Met toldReply (λ κs a. setsLevel (a .0) (a .1 .0)) set-level.Post
 set-level-met κs a x e p = meets (setsLevel (a .1 .0) (a .1 .1 .0)) refl (p .0) (p .1)
 
-pub ask-met : Met toldReply (λ κs a. asks (under (a .0) (a .1 .0) (a .1 .1 .0))) ask.Post
-ask-met κs a x e p = meets (asks (under (a .1 .0) (a .1 .1 .0) (a .1 .1 .1 .0))) refl (p .0) (p .1)
-
-pub ask-equal-met : Met toldReply (λ κs a. asks (bothWays (a .0) (a .1 .0) (a .1 .1 .0))) ask-equal.Post
-ask-equal-met κs a x e p = meets (asks (bothWays (a .1 .0) (a .1 .1 .0) (a .1 .1 .1 .0))) refl (p .0) (p .1)
-
 pub abandon-met : Met toldReply (λ κs a. abandons) abandon.Post
 abandon-met κs a x e p = meets (abandons) refl (p .0) (p .1)
 
 -- work tells its steps besides
 pub work-met : (κs : _) (a : _) (x : Instalment) (e : _) → work.Post κs a x e → Meets (works (a .1 .0)) (a .0 .now) (toldAnswer (x .answer)) (x .steps) (e .0 .now)
 work-met κs a x e p = record { tells = p .0; counts = p .1 .0; leaves = p .1 .1 }
+
+-- and so do the openings
+pub open-met : (κs : _) (a : _) (x : Opening) (e : _) → open-call.Post κs a x e
+    → Meets (opens (under (a .1 .0) (a .1 .1 .0) (a .1 .1 .1 .0)) (a .1 .1 .1 .1 .0)) (a .0 .now) (toldOpening x) (stepsOf x) (e .0 .now)
+open-met κs a x e p = record { tells = p .0; counts = p .1 .0; leaves = p .1 .1 }
+
+pub open-equal-met : (κs : _) (a : _) (x : Opening) (e : _) → open-equal.Post κs a x e
+    → Meets (opens (bothWays (a .1 .0) (a .1 .1 .0) (a .1 .1 .1 .0)) (a .1 .1 .1 .1 .0)) (a .0 .now) (toldOpening x) (stepsOf x) (e .0 .now)
+open-equal-met κs a x e p = record { tells = p .0; counts = p .1 .0; leaves = p .1 .1 }

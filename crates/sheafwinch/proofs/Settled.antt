@@ -4,7 +4,7 @@ use Prim.Native.Nat.{ℕ}
 use mathlib.Core.Path.{_≡_, sym, ap, _∙_}
 use mathlib.Core.List.{List}
 use denote.Ref.{RefT}
-use Rattle.model.proofs.OneToOne.{reply-one-to-one, made-one-to-one, answer-one-to-one, entry-read-one-to-one, record-one-to-one, disjointness-one-to-one}
+use Rattle.model.proofs.OneToOne.{reply-one-to-one, made-one-to-one, answer-one-to-one, opening-one-to-one, entry-read-one-to-one, record-one-to-one, disjointness-one-to-one}
 use Rattle.model.specs.declared.Answer.{Answer}
 use Rattle.model.specs.declared.Instalment.{Instalment}
 use Rattle.sheafwinch.proofs.start.Reads as start
@@ -22,8 +22,8 @@ use Rattle.sheafwinch.proofs.put_bound.Reads as put-bound
 use Rattle.sheafwinch.proofs.enter.Reads as enter
 use Rattle.sheafwinch.proofs.exit.Reads as exit
 use Rattle.sheafwinch.proofs.set_level.Reads as set-level
-use Rattle.sheafwinch.proofs.ask.Reads as ask
-use Rattle.sheafwinch.proofs.ask_equal.Reads as ask-equal
+use Rattle.sheafwinch.proofs.open.Reads as open-call
+use Rattle.sheafwinch.proofs.open_equal.Reads as open-equal
 use Rattle.sheafwinch.proofs.work.Reads as work
 use Rattle.sheafwinch.proofs.abandon.Reads as abandon
 use Rattle.sheafwinch.proofs.entry.Reads as entry
@@ -90,11 +90,11 @@ instalment-one x y e f =
     let b : record { answer = y .answer; steps = x .steps } ≡ y = ap (λ (k : ℕ). record { answer = y .answer; steps = k }) f in
     a ∙ b
 
-pub ask-settled : SettlesAll ask.Post
-ask-settled κs a x y e f p q = (reply-one-to-one x y (p .0 ∙ sym (q .0)), p .1 ∙ sym (q .1))
+pub open-settled : SettlesAll open-call.Post
+open-settled κs a x y e f p q = (opening-one-to-one x y (p .0 ∙ sym (q .0)) (p .1 .0 ∙ sym (q .1 .0)), p .1 .1 ∙ sym (q .1 .1))
 
-pub ask-equal-settled : SettlesAll ask-equal.Post
-ask-equal-settled κs a x y e f p q = (reply-one-to-one x y (p .0 ∙ sym (q .0)), p .1 ∙ sym (q .1))
+pub open-equal-settled : SettlesAll open-equal.Post
+open-equal-settled κs a x y e f p q = (opening-one-to-one x y (p .0 ∙ sym (q .0)) (p .1 .0 ∙ sym (q .1 .0)), p .1 .1 ∙ sym (q .1 .1))
 
 pub work-settled : SettlesAll work.Post
 work-settled κs a x y e f p q = (instalment-one x y (answer-one-to-one (x .answer) (y .answer) (p .0 ∙ sym (q .0))) (p .1 .0 ∙ sym (q .1 .0)), p .1 .1 ∙ sym (q .1 .1))

@@ -11,7 +11,7 @@ use Rattle.model.specs.Format.{variable, upper}
 use Rattle.model.specs.Table.{Entry, Table, isAsked, entryAt, is, isAt}
 use Rattle.model.specs.Image.{words, table}
 use Rattle.model.specs.Formed.{wellFormed, isEntry}
-use Rattle.model.specs.Calls.{Response, Turn, refuse, leave, responseOf, admission, provided, whenIdle, Call, turnOf, perform}
+use Rattle.model.specs.Calls.{Response, Turn, refuse, tell, leave, responseOf, admission, provided, whenIdle, Call, denies, turnOf, perform}
 use Rattle.model.specs.Told.{Told, done, toldRefusal}
 use Rattle.model.specs.declared.Refusal.{Refusal}
 use Rattle.model.specs.declared.Refusal.the-variants.{Busy}
@@ -28,13 +28,18 @@ pub refused-as : (w : List ℕ) (r : Refusal) → Replies (toldRefusal r) w (res
 unfolding responseOf
 refused-as w r = record { says = refl; leaves = refl }
 
+-- the refusal of an unfit image
+pub denied-as : (w : List ℕ) (a : Told) → Replies a w (responseOf w (tell a))
+unfolding responseOf
+denied-as w a = record { says = refl; leaves = refl }
+
 -- a reply that is the same
 pub as-same : {a : Told} {v : List ℕ} {r s : Response} → r ≡ s → Replies a v r → Replies a v s
 as-same e k = record { says = k .says ∙ ap (λ (x : Response). x .says) e; leaves = k .leaves ∙ ap (λ (x : Response). x .words) e }
 
 -- the two sides of an image's admission: x is what `formed::admit` answers
 module _ (w : List ℕ) {x : Admission} (e : x ≡ admission w) where
-  pub unfit : (c : Call) {r : Refusal} → x ≡ Unfit r → responseOf w (refuse r) ≡ perform c w
+  pub unfit : (c : Call) {r : Refusal} → x ≡ Unfit r → responseOf w (tell (denies c r)) ≡ perform c w
   unfit c {r} u = sym (perform-unfit c w r (sym e ∙ u))
 
   pub good-image : x ≡ Good → T (wellFormed w)

@@ -2,7 +2,7 @@
 use denote.Ref.{now}
 use borrow.Author.Needs.{needs}
 use Rattle.model.specs.Calls.{turnOf, makesAttrset}
-use Rattle.turns.proofs.Turning.{refused-as, as-same, unfit, good-image, good}
+use Rattle.turns.proofs.Turning.{denied-as, as-same, unfit, good-image, good}
 use Rattle.sheafwinch.proofs.make_attrset.Statement.{statement}
 use Rattle.sheafwinch.proofs.make_attrset.Tie as tie
 
@@ -25,7 +25,7 @@ returns : tie.Need-returns
 returns c =
     let s = c .before .before .before .before .before .before .before in
     let w = now (s .args .image) in
-    let k = as-same (unfit w (c .before .before .before .admit .ensures) (makesAttrset (now (s .args .fields)) (s .args .is-open) (s .args .dynamic)) (c .before .r .given .1)) (refused-as w _) in
+    let k = as-same (unfit w (c .before .before .before .admit .ensures) (makesAttrset (now (s .args .fields)) (s .args .is-open) (s .args .dynamic)) (c .before .r .given .1)) (denied-as w _) in
     (k .says, k .leaves)
 
 same-length-2 : tie.Need-same-length-2

@@ -2,7 +2,7 @@
 use denote.Ref.{now}
 use borrow.Author.Needs.{needs}
 use Rattle.model.specs.Calls.{turnOf, makesInter}
-use Rattle.turns.proofs.Turning.{refused-as, as-same, unfit, good-image, good}
+use Rattle.turns.proofs.Turning.{denied-as, as-same, unfit, good-image, good}
 use Rattle.sheafwinch.proofs.make_inter.Statement.{statement}
 use Rattle.sheafwinch.proofs.make_inter.Tie as tie
 
@@ -25,7 +25,7 @@ returns : tie.Need-returns
 returns c =
     let s = c .before .before .before .before .before .before in
     let w = now (s .args .image) in
-    let k = as-same (unfit w (c .before .before .before .admit .ensures) (makesInter (s .args .left) (s .args .right)) (c .before .r .given .1)) (refused-as w _) in
+    let k = as-same (unfit w (c .before .before .before .admit .ensures) (makesInter (s .args .left) (s .args .right)) (c .before .r .given .1)) (denied-as w _) in
     (k .says, k .leaves)
 
 same-length-2 : tie.Need-same-length-2

@@ -3,7 +3,7 @@ use native.Mathlib.Omega.{arith}
 use denote.Ref.{now}
 use borrow.Author.Needs.{needs}
 use Rattle.model.specs.Calls.{turnOf, makesList}
-use Rattle.turns.proofs.Turning.{refused-as, as-same, unfit, good-image, good}
+use Rattle.turns.proofs.Turning.{denied-as, as-same, unfit, good-image, good}
 use Rattle.sheafwinch.proofs.make_list.Statement.{statement}
 use Rattle.sheafwinch.proofs.make_list.Tie as tie
 
@@ -26,7 +26,7 @@ returns : tie.Need-returns
 returns c =
     let s = c .before .before .before .before .before .before in
     let w = now (s .args .image) in
-    let k = as-same (unfit w (c .before .before .before .admit .ensures) (makesList (s .args .element)) (c .before .r .given .1)) (refused-as w _) in
+    let k = as-same (unfit w (c .before .before .before .admit .ensures) (makesList (s .args .element)) (c .before .r .given .1)) (denied-as w _) in
     (k .says, k .leaves)
 
 same-length-2 : tie.Need-same-length-2

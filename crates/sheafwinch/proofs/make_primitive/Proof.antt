@@ -2,7 +2,7 @@
 use denote.Ref.{now}
 use borrow.Author.Needs.{needs}
 use Rattle.model.specs.Calls.{turnOf, makesPrimitive}
-use Rattle.turns.proofs.Turning.{refused-as, as-same, unfit, good-image, good}
+use Rattle.turns.proofs.Turning.{denied-as, as-same, unfit, good-image, good}
 use Rattle.sheafwinch.proofs.make_primitive.Statement.{statement}
 use Rattle.sheafwinch.proofs.make_primitive.Tie as tie
 
@@ -25,7 +25,7 @@ returns : tie.Need-returns
 returns c =
     let s = c .before .before .before .before .before .before in
     let w = now (s .args .image) in
-    let k = as-same (unfit w (c .before .before .before .admit .ensures) (makesPrimitive (s .args .which)) (c .before .r .given .1)) (refused-as w _) in
+    let k = as-same (unfit w (c .before .before .before .admit .ensures) (makesPrimitive (s .args .which)) (c .before .r .given .1)) (denied-as w _) in
     (k .says, k .leaves)
 
 same-length-2 : tie.Need-same-length-2

@@ -2,8 +2,9 @@
 use mathlib.Core.Path.{_∙_, ap}
 use denote.Ref.{now}
 use borrow.Author.Needs.{needs}
+use Rattle.model.specs.Told.{toldRefusal}
 use Rattle.model.specs.Calls.{Response, responseOf, turnOf, works}
-use Rattle.turns.proofs.Turning.{refused-as, as-same, unfit, good-image, good}
+use Rattle.turns.proofs.Turning.{denied-as, as-same, unfit, good-image, good}
 use Rattle.sheafwinch.proofs.work.Statement.{statement}
 use Rattle.sheafwinch.proofs.work.Tie as tie
 
@@ -28,7 +29,7 @@ returns c =
     let s = c .before .before .before .before .before .before in
     let w = now (s .args .image) in
     let q = unfit w (c .before .before .before .admit .ensures) (works (s .args .budget)) (c .before .r .given .1) in
-    let k = as-same q (refused-as w (c .before .r .given .0 .0)) in
+    let k = as-same q (denied-as w (toldRefusal (c .before .r .given .0 .0))) in
     (k .says, (ap (λ (x : Response). x .steps) q, k .leaves))
 
 same-length-2 : tie.Need-same-length-2
