@@ -10,6 +10,19 @@ use lang_check::table;
 use shared::layout::VARIABLE;
 use sheafwinch::{Answer, Failure, Instalment, Refusal, Region};
 
+/// How many visited pairs, bounds and marks there were before a question.
+struct Before {
+    visited: usize,
+    bounds: usize,
+    marks: u32,
+}
+
+impl Before {
+    fn of(image: Image) -> Before {
+        Before { visited: image.visited().len(), bounds: image.bounds().len(), marks: image.marks() }
+    }
+}
+
 /// An answer that both sides can give.
 #[derive(Debug, PartialEq)]
 enum Told {
@@ -19,27 +32,36 @@ enum Told {
 }
 
 impl Session<'_> {
-    /// Asks a question and compares what comes of it.
+    /// Opens a question, works it, and compares what comes of it. A refusal at the opening and one of a step are not the same.
     pub(crate) fn ask(&mut self, question: &Question) -> Ran {
         self.tally.questions += 1;
-        let deserved = self.refusal_of_ask(question);
-        let Question { left, right, .. } = *question;
-        let asked = match (question.equal, question.held) {
-            (false, false) => self.table.ask(left, right),
-            (false, true) => self.table.ask_held(left, right),
-            (true, false) => self.table.ask_equal(left, right),
-            (true, true) => self.table.ask_equal_held(left, right),
-        };
-        same("refusal of a question, and what the Rust's records call for", asked.err(), deserved)?;
-        if let Some(refusal) = deserved {
-            self.tally.asks_refused.add(refusal);
-            return Ok(self.unchanged()?);
+        self.tally.openings[question.opening() as usize] += 1;
+        let deserved = self.refusal_at_opening(question);
+        let before = Before::of(self.image());
+        let opened = self.open(question, question.budget(0, 0));
+        same("refusal at the opening, and what the Rust's records call for", opened.err(), deserved)?;
+        match opened {
+            Err(refusal) => {
+                self.tally.openings_refused.add(refusal);
+                Ok(self.unchanged()?)
+            }
+            Ok(first) => self.work(question, first, &before),
         }
-        self.work(question)
     }
 
-    /// Why a question must not be asked.
-    fn refusal_of_ask(&self, question: &Question) -> Option<Refusal> {
+    /// Opens a question on our side, with a budget.
+    fn open(&mut self, question: &Question, budget: u32) -> Result<Instalment, Refusal> {
+        let Question { left, right, .. } = *question;
+        match (question.equal, question.held) {
+            (false, false) => self.table.open(left, right, budget),
+            (false, true) => self.table.open_held(left, right, budget),
+            (true, false) => self.table.open_equal(left, right, budget),
+            (true, true) => self.table.open_equal_held(left, right, budget),
+        }
+    }
+
+    /// Why a question must not be opened.
+    fn refusal_at_opening(&self, question: &Question) -> Option<Refusal> {
         if let (true, Some(failure)) = (question.held, self.failed) {
             return Some(Refusal::Broken(failure));
         }
@@ -52,11 +74,9 @@ impl Session<'_> {
         (records && full).then_some(Refusal::NoRoom(Region::Equals))
     }
 
-    /// Works a question on our side, then on the other, and compares.
-    fn work(&mut self, question: &Question) -> Ran {
-        let image = self.image();
-        let (visited, bounds, marks) = (image.visited().len(), image.bounds().len(), image.marks());
-        let Instalment { answer, steps } = self.work_ours(question)?;
+    /// Works a question on our side, after its first instalment, then on the other, and compares.
+    fn work(&mut self, question: &Question, first: Instalment, before: &Before) -> Ran {
+        let Instalment { answer, steps } = self.work_ours(question, first)?;
         let (ours, limit) = match answer {
             Answer::Yes => (Told::Yes, question.limit),
             Answer::More => (Told::More, question.limit),
@@ -70,31 +90,36 @@ impl Session<'_> {
         let oracles = told(oracles, self.names);
         same("answer", (&ours, steps), (&oracles, oracles_steps))?;
         compare::records(&self.table, &self.oracle, self.names)?;
-        self.count(answer, steps, visited, bounds, marks);
+        self.count(answer, steps, before);
         self.finish(ours)?;
         Ok(())
     }
 
-    fn work_ours(&mut self, question: &Question) -> Result<Instalment, Fault> {
+    /// All instalments on our side, the first of them worked by the opening.
+    fn work_ours(&mut self, question: &Question, first: Instalment) -> Result<Instalment, Fault> {
+        let mut told = first;
         let mut steps = 0;
-        let mut budgets = question.budgets.iter();
-        loop {
-            let left = question.limit - steps;
-            let budget = budgets.next().map_or(left, |&budget| left.min(budget));
-            let told = self.table.work(budget);
+        for number in 0.. {
             self.tally.instalments += 1;
+            let budget = question.budget(number, steps);
+            same("whether an instalment keeps to its budget", told.steps <= budget, true)?;
             steps += told.steps;
             if told.answer != Answer::More {
-                return Ok(Instalment { answer: told.answer, steps });
+                if let (0, Answer::Refused(refusal)) = (number, told.answer) {
+                    self.tally.first_refused.add(refusal);
+                }
+                break;
             }
             same("steps of an instalment that answers MORE, and its budget", told.steps, budget)?;
             if steps == question.limit {
-                return Ok(Instalment { answer: Answer::More, steps });
+                break;
             }
             if question.pauses {
                 self.pause(question, steps)?;
             }
+            told = self.table.work(question.budget(number + 1, steps));
         }
+        Ok(Instalment { answer: told.answer, steps })
     }
 
     /// At a pause: the records are those of the Rust stopped there, and another call is refused.
@@ -106,6 +131,7 @@ impl Session<'_> {
         compare::records(&self.table, &stopped, self.names)?;
         self.before.copy_from_slice(self.table.words());
         same("a call while a question is asked, and BUSY", self.table.make_variable(), Err(Refusal::Busy))?;
+        same("an opening while a question is asked, and BUSY", self.open(question, 1), Err(Refusal::Busy))?;
         Ok(self.unchanged()?)
     }
 
@@ -140,15 +166,15 @@ impl Session<'_> {
         same("first failure", self.table.broken(), self.failed)
     }
 
-    /// Counts an answer and the rules of the pairs visited; `visited`, `bounds` and `marks` are what there was before.
-    fn count(&mut self, answer: Answer, steps: u32, visited: usize, bounds: usize, marks: u32) {
+    /// Counts an answer and the rules of the pairs visited.
+    fn count(&mut self, answer: Answer, steps: u32, before: &Before) {
         let image = Image::of(&self.table);
         let rules = Rules::of(&self.table);
         let tally = &mut *self.tally;
         tally.answer(answer);
         tally.steps += u64::from(steps);
         tally.longest = tally.longest.max(steps);
-        let pairs = &image.visited()[visited..];
+        let pairs = &image.visited()[before.visited..];
         tally.visited_before += u64::from(steps) - pairs.len() as u64;
         let mut with_variable = 0;
         for &[sub, sup] in pairs {
@@ -160,8 +186,8 @@ impl Session<'_> {
                 _ => {}
             }
         }
-        tally.bounds_there += with_variable - (image.bounds().len() - bounds) as u64;
-        tally.marks_passed += u64::from(image.marks() - marks);
+        tally.bounds_there += with_variable - (image.bounds().len() - before.bounds) as u64;
+        tally.marks_passed += u64::from(image.marks() - before.marks);
     }
 }
 

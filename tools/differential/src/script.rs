@@ -53,10 +53,36 @@ pub struct Question {
     pub held: bool,
     /// At most so many steps.
     pub limit: u32,
-    /// Of the first instalments on our side; what is left of the limit is worked after them.
+    /// Of the first instalments on our side, the opening's first; what is left of the limit is worked after them.
     pub budgets: Vec<u32>,
     /// Whether the records are compared at each pause.
     pub pauses: bool,
+}
+
+/// With what budget a question is opened on our side.
+#[derive(Clone, Copy)]
+pub enum Opening {
+    Zero,
+    Part,
+    Whole,
+}
+
+pub const OPENINGS: usize = Opening::Whole as usize + 1;
+
+impl Question {
+    /// The budget of an instalment, the opening's being number 0, after so many steps.
+    pub fn budget(&self, number: usize, steps: u32) -> u32 {
+        let left = self.limit - steps;
+        self.budgets.get(number).map_or(left, |&budget| left.min(budget))
+    }
+
+    pub fn opening(&self) -> Opening {
+        match self.budget(0, 0) {
+            0 => Opening::Zero,
+            budget if budget < self.limit => Opening::Part,
+            _ => Opening::Whole,
+        }
+    }
 }
 
 impl Make {

@@ -2,6 +2,7 @@
 
 use crate::family::FAMILIES;
 use crate::rules::{Fields, Met, Rule, MEETINGS, RULES};
+use crate::script::OPENINGS;
 use sheafwinch::{Answer, Failure, Refusal, Region};
 use std::fmt;
 
@@ -65,10 +66,14 @@ pub struct Tally {
     missing: u64,
     /// Of makes, bounds and levels.
     pub calls_refused: Refusals,
-    /// Of questions, when they were asked.
-    pub asks_refused: Refusals,
+    /// By the budget of the opening.
+    pub openings: [u64; OPENINGS],
+    /// Of questions, at the opening.
+    pub openings_refused: Refusals,
     /// Of questions, at a step.
     pub steps_refused: Refusals,
+    /// Of these, in the opening's instalment.
+    pub first_refused: Refusals,
     pub hits: Hits,
     met: [u64; MEETINGS],
     dynamics: u64,
@@ -157,8 +162,11 @@ impl fmt::Display for Tally {
         writeln!(out, "questions: {}", self.questions)?;
         writeln!(out, "  answered: yes, and stopped at the limit: {}, {}", self.yes, self.more)?;
         writeln!(out, "  failed: mismatch, and missing field: {}, {}", self.mismatch, self.missing)?;
-        writeln!(out, "  refused when asked: {}", self.asks_refused)?;
+        let [zero, part, whole] = self.openings;
+        writeln!(out, "  opened with budget 0, with part of the limit, and with all of it: {zero}, {part}, {whole}")?;
+        writeln!(out, "  refused at the opening: {}", self.openings_refused)?;
         writeln!(out, "  refused at a step: {}", self.steps_refused)?;
+        writeln!(out, "    of these in the opening's instalment: {}", self.first_refused)?;
         writeln!(out, "instalments: {}", self.instalments)?;
         writeln!(out, "pauses compared: {}", self.pauses)?;
         writeln!(out, "steps: {}; of one question at most: {}", self.steps, self.longest)?;

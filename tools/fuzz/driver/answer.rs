@@ -28,6 +28,11 @@ impl Answer {
         Answer::of(raw::REFUSED, number, 0, &[])
     }
 
+    /// The same refusal at the opening of a question.
+    pub fn unopened(self) -> Answer {
+        Answer { kind: raw::UNOPENED, ..self }
+    }
+
     pub fn no_room(region: usize) -> Answer {
         Answer::of(raw::REFUSED, refusal::NO_ROOM, 0, &[region as u32])
     }

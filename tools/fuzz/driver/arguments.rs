@@ -26,6 +26,7 @@ impl Play<'_> {
         let end = match argument {
             Argument::Primitive => 9,
             Argument::Operator => 5,
+            Argument::Flag if random.chance(10) => return random.word(),
             Argument::Flag | Argument::Side => 3,
             Argument::Region => 8,
             Argument::Functor | Argument::NameCount | Argument::Capacity => 6,

@@ -20,8 +20,8 @@ pub enum Which {
     Enter,
     Exit,
     SetLevel,
-    Ask,
-    AskEqual,
+    Open,
+    OpenEqual,
     Work,
     Abandon,
     Entry,
@@ -80,8 +80,8 @@ pub const CALLS: [(Which, &str, &[Argument]); FUNCTIONS] = [
     (W::Enter, "enter", &[]),
     (W::Exit, "exit", &[]),
     (W::SetLevel, "set_level", &[A::Entry, A::Level]),
-    (W::Ask, "ask", &[A::Flag, A::Entry, A::Entry]),
-    (W::AskEqual, "ask_equal", &[A::Flag, A::Entry, A::Entry]),
+    (W::Open, "open", &[A::Flag, A::Entry, A::Entry, A::Budget]),
+    (W::OpenEqual, "open_equal", &[A::Flag, A::Entry, A::Entry, A::Budget]),
     (W::Work, "work", &[A::Budget]),
     (W::Abandon, "abandon", &[]),
     (W::Entry, "entry", &[A::Entry]),
@@ -99,6 +99,11 @@ pub const CALLS: [(Which, &str, &[Argument]); FUNCTIONS] = [
 ];
 
 impl Which {
+    /// Whether it opens a question.
+    pub fn opens(self) -> bool {
+        matches!(self, W::Open | W::OpenEqual)
+    }
+
     pub fn name(self) -> &'static str {
         CALLS[self as usize].1
     }

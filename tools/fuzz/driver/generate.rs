@@ -136,7 +136,9 @@ impl Play<'_> {
                 self.call(Which::MakeNamed, &[next, 0])
             }
             _ => {
-                self.call(Which::Ask, &[0, 2, tree])?;
+                let which = self.random.of_these(&[Which::Open, Which::OpenEqual]);
+                let budget = self.random.of_these(&[0, 100]);
+                self.call(which, &[0, 2, tree, budget])?;
                 self.call(Which::Work, &[100])
             }
         }
@@ -154,11 +156,12 @@ impl Play<'_> {
         }
         for _ in 0..8 {
             let n = self.random.below(36) as u32;
-            let pair = if side == 0 { [0, n, 0] } else { [0, 0, n] };
+            let (sub, sup) = if side == 0 { (n, 0) } else { (0, n) };
             if self.random.chance(50) {
                 self.call(Which::PutBound, &[0, side, n])?;
             } else {
-                self.call(Which::Ask, &pair)?;
+                let budget = self.random.of_these(&[0, 1, 100]);
+                self.call(Which::Open, &[0, sub, sup, budget])?;
                 self.call(Which::Work, &[100])?;
                 self.call(Which::Abandon, &[])?;
             }

@@ -3,7 +3,7 @@
 use crate::call::{Call, Which, CALLS};
 use crate::case::Line;
 use crate::play::{Play, Played};
-use shared::image::{capacity, count, entries};
+use shared::image::{capacity, entries};
 use shared::layout::*;
 
 impl Play<'_> {
@@ -22,8 +22,8 @@ impl Play<'_> {
         let any = CALLS[self.random.below(Which::Disjoint as usize + 1)].0;
         match self.random.below(100) {
             0..=44 if asked => Which::Work,
-            0..=5 => Which::Ask,
-            6..=8 => Which::AskEqual,
+            0..=5 => Which::Open,
+            6..=8 => Which::OpenEqual,
             9..=13 => Which::MakeVariable,
             14..=20 => Which::MakePrimitive,
             21..=24 => Which::MakeAttrset,
@@ -31,7 +31,7 @@ impl Play<'_> {
             28..=29 => Which::MakeLambda,
             30..=32 => Which::MakeInter,
             33..=35 => Which::MakeUnion,
-            36..=44 if !asked => Which::Ask,
+            36..=44 if !asked => Which::Open,
             // the others begin again
             _ if any == Which::Start => Which::Check,
             _ => any,
@@ -45,7 +45,12 @@ impl Play<'_> {
         }
         match which {
             Which::MakeAttrset => call.extra = self.field_list(),
-            Which::Ask | Which::AskEqual if self.random.chance(40) => call.args[2] = self.entry_like(call.args[1]),
+            Which::Open | Which::OpenEqual if self.random.chance(40) => {
+                if self.random.chance(25) {
+                    call.args[1] = self.entry_of(ATTRSET, call.args[1]);
+                }
+                call.args[2] = self.entry_like(call.args[1]);
+            }
             Which::Enter if self.random.chance(2) => self.line(Line::Set(LEVEL_AT, u32::MAX))?,
             _ => (),
         }
@@ -70,13 +75,21 @@ impl Play<'_> {
 
     /// An entry of the same kind as this one, where there is another.
     fn entry_like(&mut self, n: u32) -> u32 {
-        let image = self.judge.image();
-        if !self.judge.formed() || n as usize >= count(image, ENTRIES) {
+        if !self.judge.formed() {
             return n;
         }
-        let kind = |n: u32| entries(image)[n as usize][KIND_WORD];
-        let like = |&m: &u32| m != n && kind(m) == kind(n);
-        let all: Vec<u32> = (0..count(image, ENTRIES) as u32).filter(like).collect();
+        let kind = entries(self.judge.image()).get(n as usize).map(|entry| entry[KIND_WORD]);
+        kind.map_or(n, |kind| self.entry_of(kind, n))
+    }
+
+    /// An entry of a kind, not this one, where there is another.
+    fn entry_of(&mut self, kind: u32, n: u32) -> u32 {
+        if !self.judge.formed() {
+            return n;
+        }
+        let entries = entries(self.judge.image());
+        let like = |&m: &u32| m != n && entries[m as usize][KIND_WORD] == kind;
+        let all: Vec<u32> = (0..entries.len() as u32).filter(like).collect();
         if all.is_empty() {
             n
         } else {

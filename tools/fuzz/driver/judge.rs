@@ -159,7 +159,7 @@ impl Judge {
         self.due.clear();
         self.due.extend_from_slice(self.lent.image.elements());
         let due = model::due(call, &mut self.due, self.formed, &mut self.tally.rules);
-        if call.which == Which::Work {
+        if call.which == Which::Work || call.which.opens() {
             self.before.clear();
             self.before.extend_from_slice(self.lent.image.elements());
         }
@@ -172,27 +172,35 @@ impl Judge {
             return Err("a word of the field list changed".to_string());
         }
         let reads = matches!(call.which, Which::Check | Which::Entry | Which::Record | Which::Disjoint);
-        if !reads && (answer.kind != raw::REFUSED || answer.steps > 0) {
+        let unopened = answer.kind == raw::UNOPENED;
+        // an opening whose first step is refused has asked its question
+        let refused = unopened || (answer.kind == raw::REFUSED && answer.steps == 0 && !call.which.opens());
+        if !reads && !refused {
             self.look_again(call, &answer)?;
         }
+        if call.which.opens() && !unopened {
+            self.in_instalments(call, &answer, 0)?;
+        }
         if answer.steps > 1 {
-            self.in_instalments(call, &answer)?;
+            self.in_instalments(call, &answer, 1)?;
         }
         Ok(())
     }
 
-    /// The same question worked in two instalments, the first of one step, ends the same.
-    fn in_instalments(&mut self, call: &Call, whole: &Answer) -> Result<(), Fault> {
+    /// The same question in two instalments, the first of so many steps, ends the same. The first is what the call is: an opening or work.
+    fn in_instalments(&mut self, call: &Call, whole: &Answer, steps: u32) -> Result<(), Fault> {
         let mut double = self.doubles.lend(self.before.len(), self.front, 0);
         double.elements_mut().copy_from_slice(&self.before);
         let image = std::mem::replace(&mut self.lent.image, double);
-        let first = self.make(&Call::with(Which::Work, &[1]));
-        let second = self.make(&Call::with(Which::Work, &[call.args[0] - 1]));
+        let (mut shorter, budget) = (call.clone(), call.which.arguments().len() - 1);
+        shorter.args[budget] = steps;
+        let first = self.make(&shorter);
+        let second = self.make(&Call::with(Which::Work, &[call.args[budget] - steps]));
         let double = std::mem::replace(&mut self.lent.image, image);
-        if first != Answer::of(raw::MORE, 0, 1, &[]) {
-            return Err(format!("{}, but after a first instalment of 1 step {first:?}", told(call, whole)));
+        if first != Answer::of(raw::MORE, 0, steps, &[]) {
+            return Err(format!("{}, but with budget {steps} {first:?}", told(call, whole)));
         }
-        if second != (Answer { steps: whole.steps - 1, ..*whole }) {
+        if second != (Answer { steps: whole.steps - steps, ..*whole }) {
             return Err(format!("{}, but in two instalments the second says {second:?}", told(call, whole)));
         }
         if double.elements() != self.image() {

@@ -16,7 +16,7 @@ pub struct Lending {
 pub fn make(call: &Call, lent: &Lending) -> Answer {
     let (image, words) = (lent.image.at, lent.image.len);
     let (list, bytes) = (lent.list.at.cast_const(), lent.list.len);
-    let [a, b, c, ..] = call.args;
+    let [a, b, c, d, ..] = call.args;
     // SAFETY: what is lent is there, aligned, and stands apart from all else that is lent.
     let told = unsafe {
         match call.which {
@@ -36,8 +36,8 @@ pub fn make(call: &Call, lent: &Lending) -> Answer {
             W::Enter => raw::sheafwinch_enter(image, words),
             W::Exit => raw::sheafwinch_exit(image, words),
             W::SetLevel => raw::sheafwinch_set_level(image, words, a, b),
-            W::Ask => raw::sheafwinch_ask(image, words, a, b, c),
-            W::AskEqual => raw::sheafwinch_ask_equal(image, words, a, b, c),
+            W::Open => raw::sheafwinch_open(image, words, a, b, c, d),
+            W::OpenEqual => raw::sheafwinch_open_equal(image, words, a, b, c, d),
             W::Work => raw::sheafwinch_work(image, words, a),
             W::Abandon => raw::sheafwinch_abandon(image, words),
             W::Entry => raw::sheafwinch_entry(image, words, a),

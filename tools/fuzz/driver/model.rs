@@ -23,6 +23,7 @@ pub fn due(call: &Call, image: &mut [u32], formed: bool, hits: &mut Hits) -> Ans
     let outcome = match call.which {
         Which::Check => Ok(Answer::done(&[formed as u32])),
         Which::Start => start(image, &call.args),
+        Which::Open | Which::OpenEqual => open(call, image, formed, hits),
         _ if !formed => refuse(refusal::BAD_TABLE),
         Which::Work if image[STATE_AT] == IDLE => refuse(refusal::IDLE),
         Which::Work => Ok(worked(image, call.args[0], hits)),
@@ -115,8 +116,6 @@ fn change(call: &Call, image: &mut [u32]) -> Outcome {
             image[entry_at(image, a, X_WORD)] = b;
             Ok(Answer::done(&[]))
         }
-        Which::Ask => ask(image, a != 0, (b, c), false),
-        Which::AskEqual => ask(image, a != 0, (b, c), true),
         other => unreachable!("{} changes nothing", other.name()),
     }
 }
@@ -210,7 +209,21 @@ fn put_bound(image: &mut [u32], variable: u32, side: u32, bound: u32) -> Outcome
     Ok(Answer::done(&[]))
 }
 
-fn ask(image: &mut [u32], held: bool, (left, right): (u32, u32), both_ways: bool) -> Outcome {
+/// An opening: refused as such, with no step; else the first instalment, as work gives it.
+fn open(call: &Call, image: &mut [u32], formed: bool, hits: &mut Hits) -> Outcome {
+    let [held, left, right, budget, ..] = call.args;
+    let asked = ask(image, formed, held != 0, (left, right), call.which == Which::OpenEqual);
+    asked.map_err(Answer::unopened)?;
+    Ok(worked(image, budget, hits))
+}
+
+fn ask(image: &mut [u32], formed: bool, held: bool, (left, right): (u32, u32), both_ways: bool) -> Result<(), Answer> {
+    if !formed {
+        return Err(Answer::refused(refusal::BAD_TABLE));
+    }
+    if image[STATE_AT] == ASKED {
+        return Err(Answer::refused(refusal::BUSY));
+    }
     if held && image[BREAK_KIND_AT] != UNBROKEN {
         return Err(Answer::of(raw::REFUSED, refusal::BROKEN, 0, &image[BREAK_KIND_AT..=BREAK_NAME_AT]));
     }
@@ -230,7 +243,7 @@ fn ask(image: &mut [u32], held: bool, (left, right): (u32, u32), both_ways: bool
         push(image, EQUALS, &[left, right]);
     }
     image[STATE_AT] = ASKED;
-    Ok(Answer::done(&[]))
+    Ok(())
 }
 
 fn read(call: &Call, image: &[u32]) -> Outcome {

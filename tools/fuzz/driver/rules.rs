@@ -103,7 +103,7 @@ fn mismatch(rule: Rule) -> (Rule, Next) {
     (rule, Next::Fail(MISMATCHED, None))
 }
 
-/// What `work` answers on a well formed image with a question asked; `image` becomes what it leaves.
+/// What an instalment of so many steps answers on a well formed image with a question asked; `image` becomes what it leaves.
 pub fn worked(image: &mut [u32], budget: u32, hits: &mut Hits) -> Answer {
     let mut steps = 0;
     loop {

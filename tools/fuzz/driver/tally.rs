@@ -2,12 +2,12 @@
 
 use crate::answer::Answer;
 use crate::call::{Which, CALLS, FUNCTIONS};
-use crate::rules::{Hits, RULE_NAMES};
+use crate::rules::{Hits, RULES, RULE_NAMES};
 use shared::raw;
 
 /// The outcomes of a call that are told apart, as places in a row: DONE without a value, with one (or, where the first value is of few
-/// kinds, each of them), YES, MORE, FAILED by number, REFUSED by number, and NO ROOM by region.
-const OUTCOMES: usize = 32;
+/// kinds, each of them), YES, MORE, FAILED by number, REFUSED by number, and NO ROOM by region; the last two again at the opening.
+const OUTCOMES: usize = 50;
 const DONE: u8 = 0;
 const VALUE: u8 = 1;
 const YES: u8 = 10;
@@ -23,8 +23,24 @@ const fn no_room(region: u8) -> u8 {
     25 + region
 }
 
+/// How much further on a refusal at the opening stands.
+const UNOPENED: u8 = 18;
+
 /// What the header says that a call may answer.
 fn wanted(which: Which) -> Vec<u8> {
+    let mut answers = worked_or_told(which);
+    let regions: &[u8] = match which {
+        Which::Open => &[5],
+        Which::OpenEqual => &[5, 6],
+        _ => return answers,
+    };
+    answers.extend([1, 3, 8, 2].map(|number| UNOPENED + refused(number)));
+    answers.extend(regions.iter().map(|&region| UNOPENED + no_room(region)));
+    answers
+}
+
+/// What it may answer besides, so each answer of a call that opens no question.
+fn worked_or_told(which: Which) -> Vec<u8> {
     let (accepted, refusals, regions): (&[u8], &[u8], &[u8]) = match which {
         Which::Check => (&[VALUE, VALUE + 1], &[], &[]),
         Which::Start => (&[DONE], &[9], &[]),
@@ -36,8 +52,7 @@ fn wanted(which: Which) -> Vec<u8> {
         Which::PutBound => (&[DONE], &[1, 3, 2, 11], &[3]),
         Which::Enter | Which::Exit => (&[DONE], &[1, 3, 10], &[]),
         Which::SetLevel => (&[DONE], &[1, 3, 2, 11], &[]),
-        Which::Ask => (&[DONE], &[1, 3, 8, 2], &[5]),
-        Which::AskEqual => (&[DONE], &[1, 3, 8, 2], &[5, 6]),
+        Which::Open | Which::OpenEqual => (&[YES, MORE, MISMATCH, MISSING], &[6], &[1, 3, 4, 5]),
         Which::Work => (&[YES, MORE, MISMATCH, MISSING], &[1, 4, 6], &[1, 3, 4, 5]),
         Which::Abandon => (&[DONE], &[1, 4], &[]),
         Which::Entry => (&[1, 2, 3, 4, 5, 6, 7, 8, 9], &[1, 2], &[]),
@@ -68,14 +83,22 @@ fn place(which: Which, answer: &Answer) -> Option<u8> {
         (raw::MORE, _) => MORE,
         (raw::FAILED, 1) => MISMATCH,
         (raw::FAILED, 2) => MISSING,
-        (raw::REFUSED, 5) if (1..=6).contains(&first) => no_room(first),
-        (raw::REFUSED, number @ 1..=12) => refused(number as u8),
+        (raw::REFUSED | raw::UNOPENED, 1..=12) => refusal(answer),
         _ => return None,
     })
 }
 
+fn refusal(answer: &Answer) -> u8 {
+    let place = match (answer.number, answer.values[0]) {
+        (5, region @ 1..=6) => no_room(region as u8),
+        (number, _) => refused(number as u8),
+    };
+    place + if answer.kind == raw::UNOPENED { UNOPENED } else { 0 }
+}
+
 fn label(which: Which, place: u8) -> String {
     match place {
+        _ if place > no_room(6) => format!("unopened {}", label(which, place - UNOPENED)),
         DONE => "done".to_string(),
         VALUE..YES if by_first_value(which) => format!("value {}", place - VALUE),
         VALUE..YES => "value".to_string(),
@@ -87,7 +110,6 @@ fn label(which: Which, place: u8) -> String {
     }
 }
 
-#[derive(Default)]
 pub struct Tally {
     met: [[u64; OUTCOMES]; FUNCTIONS],
     /// Images looked at, as the case set them and as a call left them: not well formed, well formed.
@@ -95,6 +117,12 @@ pub struct Tally {
     pub rules: Hits,
     pub calls: u64,
     pub cases: u64,
+}
+
+impl Default for Tally {
+    fn default() -> Tally {
+        Tally { met: [[0; OUTCOMES]; FUNCTIONS], looks: [[0; 2]; 2], rules: [0; RULES], calls: 0, cases: 0 }
+    }
 }
 
 impl Tally {
@@ -118,7 +146,7 @@ impl Tally {
             "images as a case set them: {set} well formed, {unfit} not; as an accepted call left them: {left}, all well formed"
         );
         println!("calls by answer: done, value (the first one where it is of few kinds), yes, more, failed by number; refusals by number,");
-        println!("NO ROOM with its region");
+        println!("NO ROOM with its region; unopened: refused at the opening");
         let mut whole = true;
         for (which, name, _) in CALLS {
             let row = &self.met[which as usize];

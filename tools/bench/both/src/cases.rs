@@ -2,6 +2,7 @@
 //! entry. A shape names shapes before it, by number; a question names two shapes.
 use sheafwinch::Primitive;
 
+#[derive(Clone)]
 pub enum Shape {
     Variable,
     Primitive(Primitive),
@@ -54,7 +55,16 @@ pub enum First {
 
 /// Attrsets of one field asked under the first variable, and each variable under the next one.
 pub fn chain(variables: usize, bounds: usize, first: First) -> Case {
-    let mut case = Case::default();
+    chain_after(Vec::new(), variables, bounds, first)
+}
+
+/// The same in a table that has the shapes of another case first, so that this one's questions can be asked of it too.
+pub fn chain_beside(case: &Case, variables: usize, bounds: usize, first: First) -> Case {
+    chain_after(case.shapes.clone(), variables, bounds, first)
+}
+
+fn chain_after(shapes: Vec<Shape>, variables: usize, bounds: usize, first: First) -> Case {
+    let mut case = Case { shapes, ..Case::default() };
     let int = case.put(INT);
     let lower = case.put_all((1..=bounds as u32).map(|name| Attrset(vec![(name, int)])));
     let chain = case.put_all((0..variables).map(|_| Variable));
@@ -75,6 +85,19 @@ pub fn separate(ints: usize, numbers: usize) -> Case {
     let ints = case.put_all((0..ints).map(|_| INT));
     let numbers = case.put_all((0..numbers).map(|_| NUMBER));
     case.questions = ints.iter().flat_map(|&sub| numbers.iter().map(move |&sup| (sub, sup))).collect();
+    case
+}
+
+/// Each of so many attrsets of four Ints asked under each of so many of four Numbers: five steps to a question, and a pair visited, in the
+/// first question five.
+pub fn short(lefts: usize, rights: usize) -> Case {
+    let mut case = Case { name: format!("{} short questions", lefts * rights), pending: 4, ..Case::default() };
+    let ints = case.put_all((0..4).map(|_| INT));
+    let numbers = case.put_all((0..4).map(|_| NUMBER));
+    let attrset = |entries: &[u32]| Attrset((1..).zip(entries.iter().copied()).collect());
+    let lefts = case.put_all((0..lefts).map(|_| attrset(&ints)));
+    let rights = case.put_all((0..rights).map(|_| attrset(&numbers)));
+    case.questions = lefts.iter().flat_map(|&sub| rights.iter().map(move |&sup| (sub, sup))).collect();
     case
 }
 

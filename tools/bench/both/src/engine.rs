@@ -16,7 +16,7 @@ pub struct Contents {
 
 pub trait Engine: Clone {
     fn make(&mut self, shape: &Shape) -> u32;
-    /// Asks and works to the end; the steps, where the answer is yes.
+    /// Opens a question and works it to the end; the steps, where the answer is yes.
     fn ask(&mut self, sub: u32, sup: u32) -> Option<u32>;
     fn contents(&self) -> Contents;
 
@@ -64,8 +64,7 @@ impl Engine for Ours {
     }
 
     fn ask(&mut self, sub: u32, sup: u32) -> Option<u32> {
-        self.0.ask(sub, sup).ok()?;
-        let told = self.0.work(u32::MAX);
+        let told = self.0.open(sub, sup, u32::MAX).ok()?;
         (told.answer == Answer::Yes).then_some(told.steps)
     }
 

@@ -1,8 +1,10 @@
 //! Times our engine and the Rust of tix from one driver, in one run, on the same inputs; a difference between them ends the run.
-//! usage: both OUT                  writes OUT/cases.md and OUT/performance.svg
+//! usage: both OUT                  writes OUT/cases.md, OUT/openings.md and OUT/performance.svg
+//!        both openings OUT         writes OUT/openings.md alone: questions opened and worked in one call, and in two
 //!        both repeat CASE TIMES    asks the questions of one case of ours so many times: for a profiler
 mod cases;
 mod engine;
+mod openings;
 mod plot;
 mod tables;
 mod timing;
@@ -71,7 +73,12 @@ fn all(out: &Path) -> io::Result<()> {
     fs::write(
         out.join("cases.md"),
         tables::cases(&seen) + &growth + &tables::last_questions(&seen) + &tables::making(&seen) + &tables::images(&seen),
-    )
+    )?;
+    openings(out)
+}
+
+fn openings(out: &Path) -> io::Result<()> {
+    fs::write(out.join("openings.md"), tables::openings(&openings::all()))
 }
 
 fn repeat(name: &str, times: usize) -> Result<(), String> {
@@ -87,9 +94,10 @@ fn repeat(name: &str, times: usize) -> Result<(), String> {
 fn work(arguments: &[String]) -> Result<(), String> {
     match arguments.iter().map(String::as_str).collect::<Vec<_>>()[..] {
         [out] => all(Path::new(out)).map_err(|why| format!("{out}: {why}")),
+        ["openings", out] => openings(Path::new(out)).map_err(|why| format!("{out}: {why}")),
         ["repeat", case, times] => repeat(case, times.parse().ok().filter(|&times| times > 0).ok_or("TIMES is from 1 on")?),
         _ => {
-            eprintln!("usage: both OUT | both repeat CASE TIMES");
+            eprintln!("usage: both OUT | both openings OUT | both repeat CASE TIMES");
             process::exit(2)
         }
     }

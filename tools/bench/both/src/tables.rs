@@ -1,4 +1,5 @@
 //! What was seen, as tables in Markdown.
+use crate::openings::Opened;
 use crate::timing::Seen;
 use std::fmt::Write;
 
@@ -118,6 +119,34 @@ pub fn making(seen: &[Seen]) -> String {
         [s.name.clone(), grouped(s.capacities[0].into())].into_iter().chain(figures).collect()
     };
     table("Making the shapes, before any question", &columns, seen.iter().map(cells))
+}
+
+pub fn openings(seen: &[Opened]) -> String {
+    let columns = [
+        "room",
+        "words",
+        "steps a question",
+        "two calls, µs a question",
+        "one call, µs a question",
+        "ratio",
+        "saved, µs",
+        "check alone, µs",
+        "rounds",
+    ];
+    let cells = |s: &Opened| {
+        vec![
+            s.name.clone(),
+            grouped(s.words as u64),
+            s.steps.to_string(),
+            micro(s.two),
+            micro(s.one),
+            three(s.one / s.two),
+            micro(s.two - s.one),
+            micro(s.check),
+            s.rounds.to_string(),
+        ]
+    };
+    table("10,000 questions, opened and worked in two calls and in one", &columns, seen.iter().map(cells))
 }
 
 /// The power of the pairs that a time grows with, from the first to the last.

@@ -2,6 +2,7 @@
 use crate::cases::Case;
 use crate::engine::{Contents, Engine, Ours, Tix};
 use shared::layout::MOST;
+use sheafwinch::Table;
 use std::hint::black_box;
 
 /// As many rounds as fit into this time, but no fewer and no more than these; an odd number.
@@ -12,7 +13,7 @@ const CHECKS: usize = 51;
 const MAKES: usize = 3;
 
 /// The processor time of this thread, in seconds: other work on the machine does not count.
-fn clock() -> f64 {
+pub fn clock() -> f64 {
     #[repr(C)]
     struct Time {
         seconds: i64,
@@ -72,6 +73,33 @@ fn timed<T>(samples: usize, call: impl Fn() -> T) -> f64 {
     median((0..samples).map(sample))
 }
 
+/// The median time of the check of a table, done so many times in a row.
+pub fn check(table: &Table, times: u32) -> f64 {
+    timed(CHECKS, || (0..times).for_each(|_| assert!(sheafwinch::check(black_box(table.words())), "well formed")))
+        / f64::from(times)
+}
+
+/// Runs the sides in turn, each round beginning with another, as many rounds as there is time for; the samples of each.
+fn rounds<T, const SIDES: usize>(sides: [&dyn Fn() -> T; SIDES]) -> ([Vec<T>; SIDES], usize) {
+    let mut samples = [const { Vec::new() }; SIDES];
+    let start = clock();
+    let mut rounds = 0;
+    while rounds < ROUNDS[0] || rounds % 2 == 0 || (rounds < ROUNDS[1] && clock() - start < SECONDS) {
+        for k in 0..SIDES {
+            let k = (rounds + k) % SIDES;
+            samples[k].push(sides[k]());
+        }
+        rounds += 1;
+    }
+    (samples, rounds)
+}
+
+/// The median seconds of each side, run in turn, and the rounds.
+pub fn in_turn<const SIDES: usize>(sides: [&dyn Fn() -> f64; SIDES]) -> ([f64; SIDES], usize) {
+    let (samples, rounds) = rounds(sides);
+    (samples.map(|samples| median(samples.into_iter())), rounds)
+}
+
 /// What was seen of a case.
 pub struct Seen {
     pub name: String,
@@ -111,20 +139,10 @@ pub fn see(case: &Case) -> Seen {
         let mut ours = ours.clone();
         assert!(ours.ask_all(case) == steps, "{}: steps differ", case.name);
         assert!(ours.contents() == contents, "{}: tables differ", case.name);
-        timed(CHECKS, || assert!(sheafwinch::check(black_box(ours.0.words())), "{}: well formed", case.name))
+        check(&ours.0, 1)
     });
 
-    let sides: [&dyn Fn() -> Seconds; 3] = [&|| run(&ours, case), &|| run(&largest, case), &|| run(&rust, case)];
-    let mut samples = [const { Vec::new() }; 3];
-    let start = clock();
-    let mut rounds = 0;
-    while rounds < ROUNDS[0] || rounds % 2 == 0 || (rounds < ROUNDS[1] && clock() - start < SECONDS) {
-        for k in 0..3 {
-            let k = (rounds + k) % 3;
-            samples[k].push(sides[k]());
-        }
-        rounds += 1;
-    }
+    let (samples, rounds) = rounds([&|| run(&ours, case), &|| run(&largest, case), &|| run(&rust, case)]);
     let [ours_time, largest_time, rust_time] = samples.map(|samples| medians(&samples));
     Seen {
         name: case.name.clone(),
