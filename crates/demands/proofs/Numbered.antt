@@ -11,12 +11,14 @@ use Rattle.model.specs.Rules.{rule}
 use Rattle.model.specs.Room.{room}
 use Rattle.model.specs.Told.{Told, done, yes, more, failed, refused, unopened, toldRefusal, toldFailure, toldUnopened}
 use Rattle.model.specs.Calls.{Response, Turn, refuse, tell, leave, responseOf, askTurn, workedTurn, workTurn, thenWork, openTurn, Call, denies, turnOf, perform}
+use Rattle.model.specs.declared.Question.{Question}
 use Rattle.model.specs.declared.Failure.{Failure}
 use Rattle.model.specs.declared.Failure.the-variants.{Mismatch, MissingField}
 use Rattle.model.specs.declared.Refusal.{Refusal}
 use Rattle.laws.specs.Turns.{IsDone, Plainly}
 use Rattle.laws.proofs.Replies.{by-provided, by-admission, by-denial}
-use Rattle.laws.proofs.Refused.{asking, plainly, by-call}
+use Rattle.laws.proofs.Refused.{plainly, by-call}
+use Rattle.laws.proofs.Questions.{Asks, ask-turn}
 
 abbrev pub Numbered : Told → Type 0
 Numbered (done l) = Unit {0}
@@ -60,17 +62,17 @@ work-says : (budget : ℕ) (t : Table) → Says (workTurn budget t)
 unfolding workTurn
 work-says budget t = by-provided Says (isAsked t) (λ h. tt) (λ h. worked-says budget (machine.work rule room budget (t .store) (t .pending)))
 
-then-says : (budget : ℕ) (turn : Turn) → Says turn → Says (thenWork budget turn)
+opening-says : (q : Question) (t : Table) (budget : ℕ) (turn : Turn) → Asks q t turn → Says (thenWork budget turn)
 unfolding thenWork
-then-says budget (refuse r) h = (r, refl)
-then-says budget (tell a) h = h
-then-says budget (leave a k u) h = work-says budget u
+opening-says q t budget (refuse r) h = (r, refl)
+opening-says q t budget (tell a) h = absurd h
+opening-says q t budget (leave a k u) h = work-says budget u
 
 turn-says : (c : Call) (ws : List ℕ) (t : Table) → Says (turnOf c ws t)
 unfolding turnOf openTurn
 turn-says c ws t =
     by-call (λ (d : Call). Says (turnOf d ws t)) (λ d n. plain-says t (turnOf d ws t) (plainly d n ws t))
-    (λ q b. then-says b (askTurn q t) (plain-says t (askTurn q t) (asking t q))) (λ b. work-says b t) c
+    (λ q b. opening-says q t b (askTurn q t) (ask-turn q t)) (λ b. work-says b t) c
 
 reply-says : (ws : List ℕ) (turn : Turn) → Says turn → Numbered (responseOf ws turn .says)
 unfolding responseOf

@@ -18,7 +18,7 @@ use Rattle.model.specs.Image.{words, table}
 use Rattle.model.specs.Formed.{wellFormed}
 use Rattle.model.specs.Rules.{breakOf, rule}
 use Rattle.model.specs.Room.{room}
-use Rattle.model.specs.Told.{Told, done, yes, more, failed, refused, toldRefusal, toldFailure, unopened, toldUnopened}
+use Rattle.model.specs.Told.{Told, done, yes, more, failed, refused, toldFailure, unopened, toldUnopened}
 use Rattle.model.specs.Calls.{Turn, refuse, tell, leave, responseOf, provided, emptyTable, capacitiesRight, start, brokenBy, askTurn, workedTurn, workTurn, thenWork, openTurn, Call, turnOf, perform}
 use Rattle.model.specs.Calls as model
 use Rattle.model.specs.declared.Question.{Question}
@@ -64,7 +64,6 @@ LeavesPast o (leave a k u) = StorePast (firstOf o (failureIn a)) (u .store) (u .
 module _ {o : Option Failure} (t : Table) (h : StorePast o (t .store) (t .pending)) where
   by-way : (c : Call) → takesSteps c ≡ false → (ws : List ℕ) (a : Told) (k : ℕ) (u : Table) → turnOf c ws t ≡ leave a k u → Way t u → StorePast o (u .store) (u .pending)
   unfolding failure-of
-  by-way c p ws a k u e (way.asks q n d) = past-on rule modelCalls h (opens n (q, sym d)) refl
   by-way c p ws a k u e (way.quits d) = past-on rule modelCalls h (quits (ap (λ (x : Table). x .store) d) (ap (λ (x : Table). x .pending) d)) refl
   by-way c p ws a k u e (way.changes n m) =
       let f : turnOf c ws (tableOf (t .store) []) ≡ leave a k u = subst (λ (q : List Pair). turnOf c ws (tableOf (t .store) q) ≡ leave a k u) n e in

@@ -1,6 +1,6 @@
 -- An opening in a well formed image, by what ask said and left: refused, or worked on. Assumes nothing.
 use Prim.Native.Nat.{ℕ}
-use mathlib.Core.Path.{_≡_, sym, ap, subst, _∙_}
+use mathlib.Core.Path.{_≡_, sym, ap, _∙_}
 use mathlib.Core.List.{List, []}
 use lib.Dec.{T}
 use Rattle.model.specs.Image.{table}
