@@ -5,7 +5,7 @@ use mathlib.Core.List.{List, [], _∷_, _++_, reverse}
 use mathlib.Core.Option.{Option, none, some}
 use Rattle.instalments.specs.Machine.{Outcome, fails, goes}
 
--- what the calls but work may do: a table started; from an idle table, a question opened, with the pairs that are pending then; a
+-- what the calls may do besides steps: a table started; from an idle table, a question opened, with the pairs that are pending then; a
 -- question given up; any other call, which finds and leaves a table idle
 pub record Calls (T P : Type 0) : Type 1 where
   pub Starts : T → Type 0
