@@ -1,4 +1,7 @@
 // The bench table of document 01, made by the calls.
+
+#![tactic(auto)]
+
 ghost use Rattle.std.specs.Prelude.{◌≡◌, length};
 
 use model::Dynamic;

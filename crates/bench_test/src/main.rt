@@ -1,5 +1,8 @@
 // The bench of document 01 through the calls, each line on the table made afresh: what is asked, what is answered in how many steps,
 // and what stands in the table then.
+
+#![tactic(auto)]
+
 mod left;
 mod repeated_bounds;
 

@@ -1,5 +1,8 @@
 // What the calls build, printed: the words of a table, what full regions and too deep an entry answer, and what words that are no
 // image answer.
+
+#![tactic(auto)]
+
 mod answers;
 mod bench_words;
 mod changed_words;

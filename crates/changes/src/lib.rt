@@ -1,5 +1,8 @@
 // The calls that make entries, mark, put bounds and set levels, in a well formed image: each refuses in document 01's order, leaves every
 // word as found where it refuses, and is what the model's turn of that call does. Crate `sheafwinch` has the calls.
+
+#![tactic(auto)]
+
 ghost use Rattle.std.specs.Prelude.{◌≡◌, ◌≤◌, T};
 ghost use Rattle.model.specs.Format.{neg};
 ghost use Rattle.model.specs.Image.{table};

@@ -1,5 +1,8 @@
 // What a pair (sub, sup) comes to, by the rules of document 01, in the Rust's shape and names. All read the image and write nothing:
 // crate `step` applies what is decided here.
+
+#![tactic(auto)]
+
 ghost use Rattle.std.specs.Prelude.{◌≡◌, false, cond, ◌&&◌, ◌≤◌, ◌<◌, length};
 ghost use Rattle.model.specs.Format.{variable, attrset};
 ghost use Rattle.model.specs.Table.{◌⊑◌, entry_at, is_at};

@@ -1,5 +1,8 @@
 // Which rule fits two concrete entries: one decision over their kinds and primitive numbers, arms in the Rust's order. Crate `constrain`
 // says what each comes to.
+
+#![tactic(auto)]
+
 ghost use Rattle.std.specs.Prelude.{◌≡◌, ◌≤◌};
 ghost use Rattle.model.specs.Rules.{arm_of};
 ghost use Rattle.decision.specs.Decide.{ArmFits, arm_in};

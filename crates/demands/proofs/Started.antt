@@ -144,7 +144,7 @@ ours_past (called {ws = ws} c fits o) = call_past (first_told o) c fits ws (ours
 unfoldable pub ours_after : {ws : List ℕ} → Ours ws → (cs : List Call) → AllFit cs → Ours (perform_all cs ws)
 unfolding perform_all
 ours_after o [] fits = o
-ours_after o (c ∷ cs) fits = ours_after (called c fits.0 o) cs fits.1
+ours_after {ws = ws} o (c ∷ cs) fits = ours_after {ws = (perform c ws).words} (called c fits.0 o) cs fits.1
 
 -- so every call is its turn, and none refuses the image
 pub ours_admitted : {ws : List ℕ} → Ours ws → (c : Call) → perform c ws ≡ response_of ws (turn_of c ws (table ws))

@@ -1,5 +1,8 @@
 // Tests on entries that the rules use: fields by name, disjointness, compatibility, and the three searches.
 // All read the image and write nothing.
+
+#![tactic(auto)]
+
 ghost use Rattle.std.specs.Prelude.{◌≡◌, ◌+◌, ◌<◌, ◌≤◌, length};
 ghost use Rattle.model.specs.Table.{entry_at};
 ghost use Rattle.model.specs.Shapes.{has_functor, primitives_disjoint, lacks_field, under_number, holds_variable, union_member, disjoint_from_sup};

@@ -1,6 +1,9 @@
 // A table as a graph for Graphviz, in its language DOT, on standard output. Entries are nodes, variables round and concrete entries
 // boxes, twice framed where they have the default mark; components are edges, bounds dashed ones, pairs asked equal those without an
 // arrow; the pair that failed is red. A field is called by its name, where the list has as many names as the image.
+
+#![tactic(auto)]
+
 mod edges;
 mod header;
 mod nodes;

@@ -1,5 +1,8 @@
 // A lent field list, triples of a name, an entry and optional: whether it is one, and whether its entries are there.
 // No test stops early: a list is nearly always right.
+
+#![tactic(auto)]
+
 ghost use Rattle.std.specs.Prelude.{◌≡◌, ◌<◌, ltb};
 ghost use Rattle.model.specs.Lists.{all};
 ghost use Rattle.model.specs.Format.{word_end};

@@ -2,6 +2,9 @@
 // decides, and `check`, which is all of them; `admit` says which refusal an unfit image gets. An image is nearly always well formed:
 // a test of many words does not stop early, and so vectorises. The bounds do stop: their variables are looked up one by one, and
 // there branches never taken cost least.
+
+#![tactic(auto)]
+
 mod entries;
 
 ghost use Rattle.std.specs.Prelude.{◌≡◌, cond, ◌&&◌, ◌≤◌, ◌<◌, length, eqb, leb, ltb};

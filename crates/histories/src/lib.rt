@@ -1,1 +1,4 @@
 // Histories, over any rule: definitions and laws alone, no code.
+
+#![tactic(auto)]
+

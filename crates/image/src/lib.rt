@@ -1,6 +1,9 @@
 // The image over lent words: the numbers of the format and its limits, and the reads, of the header and record by record.
 // specs/Laid.antt says how words are laid out, specs/Shown.antt that they show a table: what changes an image (crates writes and start)
 // says which table its words show.
+
+#![tactic(auto)]
+
 pub mod format;
 
 ghost use Rattle.std.specs.Prelude.{◌≡◌, ◌+◌, ◌-◌, ◌*◌, ◌≤◌, ◌<◌, length, drop};

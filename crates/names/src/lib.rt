@@ -1,5 +1,8 @@
 // Name lists, lent as bytes: the calls that check, count, show, compare and find names, each for any bytes.
 // specs/Names.antt says what a name list is and what each call answers; specs/Answers.antt what each answer tells.
+
+#![tactic(auto)]
+
 ghost use Rattle.std.specs.Prelude.{◌≡◌, ◌+◌, ◌*◌, ◌<◌, ◌≤◌, length};
 ghost use Rattle.model.specs.Told.{done, told_reply};
 ghost use Rattle.names.specs.Names.{u16_at, name_count, name_offset, bytes_at, name_at, header_whole, first_zero, none_falls, last_right, few_names, none_long, ascends_at, ascending, has_bytes, compare_names, name_of, name_number, names_right, check_names, check_name, count_names, compare_at, find_name, show_name, shown_at, place_name};

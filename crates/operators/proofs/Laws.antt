@@ -5,7 +5,7 @@ use mathlib.Core.Path.{◌≡◌, refl, ap}
 use mathlib.Core.Bool.{Bool, true, false, cond, ◌&&◌, ◌||◌}
 use lib.Dec.{eqb}
 use borrow.Author.Tests.{eqb-true, eqb-false, eq-eqb, ne_eqb}
-use Rattle.operators.specs.Operators.{add, is_numeric, numeric_result, is_text, result}
+use Rattle.operators.specs.Operators.{add, is_numeric, numeric_result, is_text, result_of}
 use Rattle.operators.specs.NumericOnly.{Not, Numeric, NotNumeric, Wins, NumericOnly}
 use Rattle.operators.specs.declared.Resolved.{Resolved}
 use Rattle.operators.specs.declared.Resolved.TheVariants as R
@@ -45,8 +45,8 @@ wins p l r h = cases (eqb l 3) (eqb r 3) (eqb l 7) (eqb r 7) refl refl refl refl
     cases false false false false es et eu ev = h.neither (eqb-false l 3 es) (eqb-false r 3 et) (eqb-false l 7 eu) (eqb-false r 7 ev)
 
 -- one law for the operators that take numbers alone, and for Add where it joins no texts
-pub numeric_only : (x : Resolved) (op l r : ℕ) → (eqb op add && is_text l && is_text r) ≡ false → NumericOnly x l r → x ≡ result op l r
-unfolding result
+pub numeric_only : (x : Resolved) (op l r : ℕ) → (eqb op add && is_text l && is_text r) ≡ false → NumericOnly x l r → x ≡ result_of op l r
+unfolding result_of
 numeric_only (R.Primitive p) op l r joins h = rw (numeric l h.left, numeric r h.right) (ap R.Primitive (wins p l r h))
 numeric_only R.None op l r joins h = rw (not_both l r h, joins)
 numeric_only (R.Refused e) op l r joins h = absurd h

@@ -62,8 +62,8 @@ unfoldable pub is_text : ℕ → Bool
 is_text p = eqb p string || eqb p path
 
 -- two numeric ones: their result; "Add of two of String, Path: the left; else none"
-unfoldable pub result : ℕ → ℕ → ℕ → Resolved
-result op l r =
+unfoldable pub result_of : ℕ → ℕ → ℕ → Resolved
+result_of op l r =
     cond (is_numeric l && is_numeric r) (R.Primitive (numeric_result l r))
     (cond (eqb op add && is_text l && is_text r) (R.Primitive l) R.None)
 
@@ -81,7 +81,7 @@ bad_number = R.Refused F.BadNumber
 
 -- the calls
 unfoldable pub resolved : ℕ → ℕ → ℕ → Resolved
-resolved op l r = cond (is_operator op && is_primitive l && is_primitive r) (result op l r) bad_number
+resolved op l r = cond (is_operator op && is_primitive l && is_primitive r) (result_of op l r) bad_number
 
 unfoldable pub from_left : ℕ → ℕ → Resolved
 from_left op l = cond (is_operator op && is_primitive l) (known_from_left op l) bad_number
@@ -97,5 +97,5 @@ told_resolved (R.Refused r) = told_refusal r
 
 -- to compute: unfolds all of this file
 unfoldable pub operating : Unit {0}
-unfolding is_numeric numeric_result is_text result known_from_left bound_at_once resolved from_left at_once
+unfolding is_numeric numeric_result is_text result_of known_from_left bound_at_once resolved from_left at_once
 operating = tt

@@ -1,7 +1,10 @@
 // The overloaded operators on primitives: tix's operators.rs, with the numbers that document 01 gives them.
 // specs/Operators.antt says what each call answers.
+
+#![tactic(auto)]
+
 ghost use Rattle.std.specs.Prelude.{◌≡◌};
-ghost use Rattle.operators.specs.Operators.{add, result, resolved, from_left, at_once};
+ghost use Rattle.operators.specs.Operators.{add, result_of, resolved, from_left, at_once};
 ghost use Rattle.operators.specs.NumericOnly.{NumericOnly};
 
 use model::Refusal;
@@ -43,7 +46,7 @@ pub enum Resolved {
 
 // The result of an operator on two primitives.
 pub fn resolve(op: u32, left: u32, right: u32) -> Resolved
-    ensures* { λ r. ⌜ r ≡ resolved op left right ⌝ }
+    ensures { result ≡ resolved op left right }
 {
     if DIV < op {
         return Resolved::Refused(Refusal::BadNumber);
@@ -62,7 +65,7 @@ pub fn resolve(op: u32, left: u32, right: u32) -> Resolved
 
 // Add takes numbers, and joins texts: the left one's primitive.
 fn resolve_add(left: u32, right: u32) -> Resolved
-    ensures* { λ r. ⌜ r ≡ result add left right ⌝ }
+    ensures { result ≡ result_of add left right }
 {
     match left {
         STRING | PATH => match right {
@@ -75,7 +78,7 @@ fn resolve_add(left: u32, right: u32) -> Resolved
 
 // Sub, Mul and Div take numbers alone: a Float wins, then a Number.
 fn resolve_numeric_only(left: u32, right: u32) -> Resolved
-    ensures* { λ r. ⌜ NumericOnly r left right ⌝ }
+    ensures { NumericOnly result left right }
 {
     match left {
         INT => match right {
@@ -98,7 +101,7 @@ fn resolve_numeric_only(left: u32, right: u32) -> Resolved
 
 // The result that is known from the left primitive alone.
 pub fn from_left(op: u32, left: u32) -> Resolved
-    ensures* { λ r. ⌜ r ≡ from_left op left ⌝ }
+    ensures { result ≡ from_left op left }
 {
     if DIV < op {
         return Resolved::Refused(Refusal::BadNumber);
@@ -117,7 +120,7 @@ pub fn from_left(op: u32, left: u32) -> Resolved
 
 // The primitive that bounds an operator's operands and result at once.
 pub fn at_once(op: u32) -> Resolved
-    ensures* { λ r. ⌜ r ≡ at_once op ⌝ }
+    ensures { result ≡ at_once op }
 {
     match op {
         ADD => Resolved::None,

@@ -1,4 +1,7 @@
 // What the engine stands on, printed: the table of the operators on primitives, and name lists.
+
+#![tactic(auto)]
+
 mod name_list;
 
 use operators::Resolved;

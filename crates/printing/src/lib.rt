@@ -1,5 +1,8 @@
 // What the programs write with: bytes and numbers, a pattern with numbers in it, a word of a list. Each by its file, as `write`, and for
 // standard output, as `print`. A text that is one pattern or one list is proved far sooner than one in many pieces.
+
+#![tactic(auto)]
+
 mod lists;
 mod patterns;
 

@@ -1,5 +1,8 @@
 // Questions in a well formed image: open, work in instalments, abandon. Each is what the model's call does where the image
 // is well formed; crate `sheafwinch` has the calls.
+
+#![tactic(auto)]
+
 ghost use Rattle.std.specs.Prelude.{◌≡◌, ◌+◌, ◌≤◌, ◌++◌, length, T};
 ghost use Rattle.model.specs.Format.{idle};
 ghost use Rattle.model.specs.Table.{table_of};

@@ -1,5 +1,8 @@
 // The reads of a well formed image: an entry, a region's record, whether two entries are disjoint. Each is what the model's turn of that
 // call does. Crate `sheafwinch` has the calls.
+
+#![tactic(auto)]
+
 ghost use Rattle.std.specs.Prelude.{◌≡◌, T};
 ghost use Rattle.model.specs.Image.{table};
 ghost use Rattle.model.specs.Formed.{well_formed};

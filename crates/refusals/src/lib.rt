@@ -1,4 +1,7 @@
 // What a refusal tells, in one place for the calls for C and the programs: its number in document 01, and what it carries.
+
+#![tactic(auto)]
+
 ghost use Rattle.std.specs.Prelude.{◌≡◌, ◌≤◌};
 ghost use Rattle.model.specs.Told.{number_of, carried as carriedBy};
 

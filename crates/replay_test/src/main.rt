@@ -2,6 +2,9 @@
 // the calls of crate sheafwinch, a question in several instalments, and every answer, step count and record is held to the Rust's.
 // tools/oracle/README.md says how the lines are made and what each means. They come by standard input, from the file `stdin` beside
 // src/, since the gate feeds that to a program on a clean clone: it needs no path, no argument and no crate that opens files.
+
+#![tactic(auto)]
+
 mod compared;
 mod dumped;
 mod fields_met;

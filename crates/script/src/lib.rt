@@ -1,5 +1,8 @@
 // The scripts of winch as text, one verb to a line: words and numbers, the verbs, lines that are wrong, and what the program keeps beside
 // its table.
+
+#![tactic(auto)]
+
 pub mod args;
 pub mod desk;
 pub mod first_words;

@@ -1,5 +1,8 @@
 // The calls on an image. Each tests the image first, then hands it on to a core that requires it well formed, in crates `changes`,
 // `questions` and `reads`. Its contract is the model's definition of that call: `perform` in crates/model/specs/Calls.antt.
+
+#![tactic(auto)]
+
 ghost use Rattle.std.specs.Prelude.{◌≡◌};
 ghost use Rattle.model.specs.Calls.{perform, makes_variable, makes_primitive, makes_list, makes_lambda, makes_attrset, makes_named, makes_neg, makes_inter, makes_union, marks, puts_bound, enters, exits, sets_level, under, both_ways, opens, works, abandons, reads_entry, reads_record, reads_disjoint};
 ghost use Rattle.model.specs.Calls.{start as start_of};

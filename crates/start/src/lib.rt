@@ -1,4 +1,7 @@
 // Starting an image: every word zeroed, and the header written.
+
+#![tactic(auto)]
+
 ghost use Rattle.std.specs.Prelude.{◌≡◌, [], ◌∷◌, ◌+◌, ◌≤◌, ◌<◌, length, set, replicate, T, eqb, leb};
 ghost use Rattle.std.proofs.lemmas.List.Edits.{sets};
 ghost use Rattle.model.specs.Lists.{all_of};

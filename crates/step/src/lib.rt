@@ -1,5 +1,8 @@
 // One step of a question: takes the last pair off pending, decides, makes entries, tests its needs region by region and then depth,
 // and applies what was decided, or fails, or is refused with nothing done. Its contract is the model's rule and room.
+
+#![tactic(auto)]
+
 mod consequences;
 
 ghost use Rattle.std.specs.Prelude.{◌≡◌, ◌≤◌, ◌<◌, length, take, T};

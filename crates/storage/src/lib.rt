@@ -1,4 +1,7 @@
 // Bounds, marks and levels in an image.
+
+#![tactic(auto)]
+
 ghost use Rattle.std.specs.Prelude.{◌≡◌, ◌<◌, ◌≤◌, length, T, eqb};
 ghost use Rattle.model.specs.Lists.{any};
 ghost use Rattle.model.specs.Image.{words};

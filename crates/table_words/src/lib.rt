@@ -1,5 +1,8 @@
 // The words of a table, for the programs: they are read as they stand, since the table is the program's own and every call leaves it
 // well formed; and how many of them a table has.
+
+#![tactic(auto)]
+
 ghost use Rattle.std.specs.Prelude.{◌≡◌, ◌≤◌, length};
 ghost use Rattle.model.specs.Format.{regions, newest};
 

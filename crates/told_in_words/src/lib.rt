@@ -1,5 +1,8 @@
 // What the calls answer, told in words: answers and failures on standard output, a field by its name in a lent name list; the names of
 // refusals and regions on any file.
+
+#![tactic(auto)]
+
 use libc::STDOUT_FILENO;
 use model::{Answer, Carried, Failure, Instalment, Refusal};
 use printing::{print, print_one, print_two, write_number, write_word};

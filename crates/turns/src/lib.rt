@@ -1,1 +1,4 @@
 // A call by its tests, one after the other: laws alone, no code.
+
+#![tactic(auto)]
+

@@ -1,4 +1,7 @@
 // Making entries in an image: each concrete, and negation with its cache. A refusal leaves every word as found.
+
+#![tactic(auto)]
+
 ghost use Rattle.std.specs.Prelude.{◌≡◌, ◌+◌, ◌*◌, ◌≤◌, ◌<◌, ◌++◌, length, take, T};
 ghost use Rattle.model.specs.Formed.{well_formed};
 ghost use Rattle.model.specs.Image.{table};

@@ -1,4 +1,7 @@
 // The command line of the engine: runs a script, one verb to a line, and prints its answers.
+
+#![tactic(auto)]
+
 mod asking;
 mod attrsets;
 mod incident;

@@ -1,5 +1,8 @@
 // What changes an image: records put behind the last of a region and taken off, words of an entry, the break, the level, and the doors
 // through which a question is opened and ended. Each says which table the words show then.
+
+#![tactic(auto)]
+
 ghost use Rattle.std.specs.Prelude.{◌≡◌, [], ◌∷◌, ◌++◌, ◌+◌, ◌-◌, ◌*◌, ◌≤◌, ◌<◌, length, set, take, replicate};
 ghost use Rattle.std.proofs.lemmas.List.Edits.{sets};
 ghost use Rattle.model.specs.Format.{idle, asked, entry_width, header_words};

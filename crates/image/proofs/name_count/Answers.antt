@@ -1,0 +1,8 @@
+-- `name_count`: how many names there are: the word that the header has.
+use mathlib.Core.Path.{refl}
+use Rattle.model.specs.Image.{table}
+use Rattle.image.proofs.name_count.Goals as goal
+
+pub returns : goal.returns
+unfolding table
+returns c = refl
