@@ -1,5 +1,5 @@
-// What the programs write with: bytes and numbers, a pattern with numbers in it, a word of a list. Each by its file, as `write`, and for
-// standard output, as `print`. A text that is one pattern or one list is proved far sooner than one in many pieces.
+// What the programs write with: bytes and numbers, a pattern with numbers in it, a word of a list. Each to any writer, as `write`, and to
+// that of standard output, as `print`. A text that is one pattern or one list is proved far sooner than one in many pieces.
 
 #![tactic(auto)]
 
@@ -8,26 +8,27 @@ mod patterns;
 
 ghost use Rattle.std.specs.Prelude.{◌≤◌, length};
 
-use libc::STDOUT_FILENO;
 pub use lists::{index_of, is, print_word, write_word};
 pub use patterns::{
     print_four, print_one, print_three, print_two, write_each, write_four, write_one, write_three,
     write_two,
 };
+use std::io;
+use std::io::Write;
 
 // Writes all of s.
-pub fn write(fd: i32, s: &[u8]) {
-    io::write_all(fd, s);
+pub fn write<W: Write>(out: &mut W, s: &[u8]) -> io::Result<()> {
+    out.write_all(s)
 }
 
 // A number in decimal.
-pub fn write_number(fd: i32, n: u32) {
-    io::print_decimal(fd, n as u64);
+pub fn write_number<W: Write>(out: &mut W, n: u32) -> io::Result<()> {
+    write!(out, "{n}")
 }
 
 // Writes all of s to standard output.
-pub fn print(s: &[u8]) {
-    write(STDOUT_FILENO, s);
+pub fn print<W: Write>(out: &mut W, s: &[u8]) -> io::Result<()> {
+    write(out, s)
 }
 
 // Where a byte stands first from a place on; past the last where it does not.

@@ -2,18 +2,19 @@
 ghost use Rattle.std.specs.Prelude.{◌≤◌, length};
 
 use crate::{place_of, write};
-use libc::STDOUT_FILENO;
+use std::io;
+use std::io::Write;
 
 // The word of a number; nothing where the list has none.
-pub fn write_word(fd: i32, list: &[u8], n: u32) {
+pub fn write_word<W: Write>(out: &mut W, list: &[u8], n: u32) -> io::Result<()> {
     let start = start_of(list, n);
     let end = place_of(list, start, b'|');
-    write(fd, &list[start..end]);
+    write(out, &list[start..end])
 }
 
 // The same to standard output.
-pub fn print_word(list: &[u8], n: u32) {
-    write_word(STDOUT_FILENO, list, n);
+pub fn print_word<W: Write>(out: &mut W, list: &[u8], n: u32) -> io::Result<()> {
+    write_word(out, list, n)
 }
 
 // Where a word starts; past the last where the list has none.
@@ -42,7 +43,7 @@ pub fn index_of(list: &[u8], word: &[u8]) -> u32 {
         if is(&list[at..end], word) {
             return index;
         }
-        index = std::num::wrapping_add_u32(index, 1);
+        index = index.wrapping_add(1);
         at = end + 1;
     }
     index

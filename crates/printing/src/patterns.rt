@@ -1,68 +1,96 @@
 // Patterns: each `%` in one stands for the next of the numbers.
 use crate::{place_of, write, write_number};
-use libc::STDOUT_FILENO;
+use std::io;
+use std::io::Write;
 
 // A pattern with its numbers; 0 where there are too few.
-pub fn write_each(fd: i32, pattern: &[u8], numbers: &[u32]) {
+pub fn write_each<W: Write>(out: &mut W, pattern: &[u8], numbers: &[u32]) -> io::Result<()> {
     let mut at: usize = 0;
     let mut n: usize = 0;
     while at < pattern.len() {
         let end = place_of(pattern, at, b'%');
-        write(fd, &pattern[at..end]);
+        write(out, &pattern[at..end])?;
         if end < pattern.len() {
-            write_nth(fd, numbers, n);
+            write_nth(out, numbers, n)?;
         }
         n += 1;
         at = end + 1;
     }
+    Ok(())
 }
 
 // A number by its place.
-fn write_nth(fd: i32, numbers: &[u32], n: usize) {
+fn write_nth<W: Write>(out: &mut W, numbers: &[u32], n: usize) -> io::Result<()> {
     if n < numbers.len() {
-        write_number(fd, numbers[n]);
+        write_number(out, numbers[n])
     } else {
-        write_number(fd, 0);
+        write_number(out, 0)
     }
 }
 
 // A pattern with one number.
-pub fn write_one(fd: i32, pattern: &[u8], a: u32) {
-    write_four(fd, pattern, a, 0, 0, 0);
+pub fn write_one<W: Write>(out: &mut W, pattern: &[u8], a: u32) -> io::Result<()> {
+    write_four(out, pattern, a, 0, 0, 0)
 }
 
 // With two.
-pub fn write_two(fd: i32, pattern: &[u8], a: u32, b: u32) {
-    write_four(fd, pattern, a, b, 0, 0);
+pub fn write_two<W: Write>(out: &mut W, pattern: &[u8], a: u32, b: u32) -> io::Result<()> {
+    write_four(out, pattern, a, b, 0, 0)
 }
 
 // With three.
-pub fn write_three(fd: i32, pattern: &[u8], a: u32, b: u32, c: u32) {
-    write_four(fd, pattern, a, b, c, 0);
+pub fn write_three<W: Write>(
+    out: &mut W,
+    pattern: &[u8],
+    a: u32,
+    b: u32,
+    c: u32,
+) -> io::Result<()> {
+    write_four(out, pattern, a, b, c, 0)
 }
 
 // With four.
-pub fn write_four(fd: i32, pattern: &[u8], a: u32, b: u32, c: u32, d: u32) {
+pub fn write_four<W: Write>(
+    out: &mut W,
+    pattern: &[u8],
+    a: u32,
+    b: u32,
+    c: u32,
+    d: u32,
+) -> io::Result<()> {
     let numbers = [a, b, c, d];
-    write_each(fd, pattern, &numbers);
+    write_each(out, pattern, &numbers)
 }
 
 // A pattern with one number, to standard output.
-pub fn print_one(pattern: &[u8], a: u32) {
-    write_four(STDOUT_FILENO, pattern, a, 0, 0, 0);
+pub fn print_one<W: Write>(out: &mut W, pattern: &[u8], a: u32) -> io::Result<()> {
+    write_one(out, pattern, a)
 }
 
 // With two.
-pub fn print_two(pattern: &[u8], a: u32, b: u32) {
-    write_four(STDOUT_FILENO, pattern, a, b, 0, 0);
+pub fn print_two<W: Write>(out: &mut W, pattern: &[u8], a: u32, b: u32) -> io::Result<()> {
+    write_two(out, pattern, a, b)
 }
 
 // With three.
-pub fn print_three(pattern: &[u8], a: u32, b: u32, c: u32) {
-    write_four(STDOUT_FILENO, pattern, a, b, c, 0);
+pub fn print_three<W: Write>(
+    out: &mut W,
+    pattern: &[u8],
+    a: u32,
+    b: u32,
+    c: u32,
+) -> io::Result<()> {
+    write_three(out, pattern, a, b, c)
 }
 
 // With four.
-pub fn print_four(pattern: &[u8], a: u32, b: u32, c: u32, d: u32) {
-    write_four(STDOUT_FILENO, pattern, a, b, c, d);
+pub fn print_four<W: Write>(
+    out: &mut W,
+    pattern: &[u8],
+    a: u32,
+    b: u32,
+    c: u32,
+    d: u32,
+) -> io::Result<()> {
+    write_four(out, pattern, a, b, c, d)
 }
