@@ -1,8 +1,8 @@
 -- What words that show a table say of their header; where each region lies by itself; and the entries, which start right behind the
 -- header. Assumes nothing.
-use Prim.Native.Nat.{ℕ, ◌+◌, ◌*◌, ◌≤◌, ◌<◌}
+use Prim.Native.Nat.{ℕ, ◌+◌, ◌*◌, ◌<◌}
 use mathlib.Core.Path.{◌≡◌, refl, sym, subst}
-use mathlib.Core.List.{List, [], ◌∷◌}
+use mathlib.Core.List.{List}
 use lib.ListN.{length, set}
 use Rattle.model.specs.Format.{header_words, entry_width, entries_region, fields_region, bounds_region, visited_region, pending_region, equals_region}
 use Rattle.model.specs.Making.{changed}
