@@ -1,7 +1,6 @@
 pub mod All
 pub mod Comparing
 pub mod NamesLaying
-pub mod Tested
 pub mod OneToOne
 pub mod Calling
 pub mod Placing

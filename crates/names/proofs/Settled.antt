@@ -51,6 +51,6 @@ SettlesSeen {K} {A} {E} post =
 
 pub show_settled : SettlesSeen show.Post
 show_settled κs a x y e f p q =
-    let place : x.ptr ≡ y.ptr = p.1 ∙ sym q.1 in
+    let place : x.ref_ptr ≡ y.ref_ptr = p.1 ∙ sym q.1 in
     let bytes : x.now ≡ y.now = p.0 ∙ sym q.0 in
     rw (place, bytes)
