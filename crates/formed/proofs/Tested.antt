@@ -2,7 +2,6 @@
 use mathlib.Core.Path.{◌≡◌, refl, sym, ◌∙◌}
 use mathlib.Core.List.{List, [], ◌∷◌, ◌++◌}
 use mathlib.Core.Bool.{Bool, true, false, not, ◌&&◌, ◌||◌, and-true, and-false, and_assoc}
-use borrow.Author.Tests.{not-true, not-false}
 use Rattle.model.specs.Lists.{◌⇒◌, all_of}
 
 -- tests joined from the left, as code joins them
@@ -50,10 +49,3 @@ pub record Split (r a b : Bool) : Type 0 where
 
 pub beside : {r a b s p q : Bool} → Split r a b → Split s p q → Split (r && s) (a && p) (b && q)
 beside {r} {a} {b} {s} {p} {q} h k = record { is = (λ i. h.is i && k.is i) ∙ crossed a b p q }
-
--- what a branch on the negation of a call's result tells
-pub passed : {r t : Bool} → r ≡ t → not r ≡ false → t ≡ true
-passed e h = sym e ∙ not-false _ h
-
-pub failed : {r t : Bool} → r ≡ t → not r ≡ true → t ≡ false
-failed e h = sym e ∙ not-true _ h

@@ -17,7 +17,7 @@ const ATTRSET_FLAGS: u32 = image::format::MARK_FLAG
     + image::format::DYNAMIC_FLAG;
 
 // An entry's words.
-#[derive(Drop)]
+#[derive(Clone, Copy)]
 struct EntryWords {
     kind: u32,
     x: u32,

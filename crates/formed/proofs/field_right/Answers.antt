@@ -1,0 +1,8 @@
+-- `formed::field_right` meets its contract. Assumes nothing.
+use Rattle.model.specs.Formed.{is_entry, field_right}
+use Rattle.image.proofs.Reading.{entries_count}
+use Rattle.formed.proofs.field_right.Goals as goal
+
+pub returns : goal.returns
+unfolding field_right is_entry
+returns c = rw (c.field_word.ensures, c.field_word-2.ensures, entries_count c.args.image.now)

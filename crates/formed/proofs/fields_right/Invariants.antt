@@ -1,0 +1,14 @@
+-- What the loops of `fields_right` keep, and why they end.
+use Prim.Native.Nat.{◌≤◌, ◌-◌}
+use mathlib.Core.Path.{◌≡◌}
+use lib.ListN.{take}
+use Rattle.model.specs.Lists.{all}
+use Rattle.model.specs.Formed.{field_right}
+use Rattle.image.specs.Shown.{entries_of, fields_in}
+use Rattle.formed.proofs.fields_right.Given as goal
+
+abbrev pub invariant-loop-i : goal.invariant-loop-i
+invariant-loop-i l = (l.i ≤ l.n) × (l.ok ≡ all (field_right (entries_of l.image)) (take l.i (fields_in l.image)))
+
+abbrev pub decreases-loop-i : goal.decreases-loop-i
+decreases-loop-i l = l.n - l.i

@@ -1,0 +1,16 @@
+-- `formed::zeros` meets its contract. The loop's invariant: `ok` is the test of the first i words. Assumes nothing.
+use native.Mathlib.Omega.{arith}
+use mathlib.Core.Path.{refl, sym}
+use borrow.Author.Rules.{rules}
+use Rattle.model.specs.Lists.{is_zero, all}
+use Rattle.formed.proofs.Walked.{all_step}
+use Rattle.formed.proofs.zeros.Goals as goal
+
+pub loop-i-init : goal.loop-i-init
+unfolding all
+loop-i-init c = (search rules, refl)
+
+pub loop-i-preserved : goal.loop-i-preserved
+loop-i-preserved c =
+    let l = c.loop-i in
+    (omega arith, rw l.invariant.1 (sym (all_step is_zero 0 c.args.part.now l.i c.loop-i-test.true)))
