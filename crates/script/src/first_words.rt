@@ -11,7 +11,7 @@ pub const VERB: u32 = 1;
 pub const HELD_OR_OPEN: u32 = 2;
 
 // Which of these it is, the verb and its number.
-#[derive(Drop)]
+#[derive(Clone, Copy)]
 pub struct Said {
     pub form: u32,
     pub is_held: bool,

@@ -1,26 +1,28 @@
 // The program's help: what it is called with, and a line for each verb.
 use printing::write;
+use std::io;
+use std::io::Write;
 
 // All of it.
-pub fn print_help(fd: i32) {
-    print_usage(fd);
+pub fn print_help<W: Write>(out: &mut W) -> io::Result<()> {
+    print_usage(out)?;
     write(
-        fd,
+        out,
         b"
 A script has one verb to a line; # begins a comment. It has at most 1048576 bytes. A, B, E and V are entry numbers, from 0 on.
 An answer is one line; but dump, dumps, dot and help print several, and new, mark, bound, level, setlevel, limit, plain and echo
 say nothing when done. A line that is wrong is told with its number and why; it changes nothing, and the next line is run.
 
 ",
-    );
-    print_verbs(fd);
-    print_refusals(fd);
+    )?;
+    print_verbs(out)?;
+    print_refusals(out)
 }
 
 // Every refusal that can be met, and when.
-fn print_refusals(fd: i32) {
+fn print_refusals<W: Write>(out: &mut W) -> io::Result<()> {
     write(
-        fd,
+        out,
         b"
 A refusal is an answer. With steps N it is one of a step: the N steps before are kept, and the question stays asked. Without, it is one of
 the opening or of another call, and changes nothing in the table:
@@ -36,13 +38,13 @@ refused 10 LEVEL           exit at level 0, or enter at the last level
 refused 11 NOT A VARIABLE  bound or setlevel of another entry
 refused 12 BAD NAMES       a name is given twice, has more than 255 bytes, or all have more than 65535
 ",
-    );
+    )
 }
 
 // What the program is called with.
-pub fn print_usage(fd: i32) {
+pub fn print_usage<W: Write>(out: &mut W) -> io::Result<()> {
     write(
-        fd,
+        out,
         b"usage: winch                run the script that comes by standard input
        winch FILE           run the script of a file; - is standard input
        winch dot FILE       the same, answers on standard error; then its last table as a graph for Graphviz;
@@ -52,34 +54,34 @@ pub fn print_usage(fd: i32) {
        winch show incident  print the example's script
        winch help           print this; also --help and -h
 ",
-    );
+    )
 }
 
 // A line for each verb.
-pub fn print_verbs(fd: i32) {
-    print_tables(fd);
-    print_makes(fd);
-    print_questions(fd);
-    print_reads(fd);
-    print_settings(fd);
+pub fn print_verbs<W: Write>(out: &mut W) -> io::Result<()> {
+    print_tables(out)?;
+    print_makes(out)?;
+    print_questions(out)?;
+    print_reads(out)?;
+    print_settings(out)
 }
 
 // The verbs that start a table or give names.
-fn print_tables(fd: i32) {
+fn print_tables<W: Write>(out: &mut W) -> io::Result<()> {
     write(
-        fd,
+        out,
         b"new                 an empty table of the largest capacities; a script starts with one
 start ENTRIES FIELDS BOUNDS VISITED PENDING EQUALS
                     an empty table that takes so many entries, fields, bounds, visited pairs, pending pairs, equals
 names NAME..        the name list of the tables after this; names alone: a table's own field names, as without it
 ",
-    );
+    )
 }
 
 // Those that make an entry, and put marks, bounds and levels.
-fn print_makes(fd: i32) {
+fn print_makes<W: Write>(out: &mut W) -> io::Result<()> {
     write(
-        fd,
+        out,
         b"var                 makes a variable at the current level; answers = NUMBER ENTRIES, as every make
 prim P              a primitive: 0 Null, 1 Bool, 2 Int, 3 Float, 4 String, 5 Path, 6 Uri, 7 Number
 list E              a list of E
@@ -98,13 +100,13 @@ exit                one level down
 level N             goes to level N, at most 1000 levels up or down
 setlevel V N        sets the level of the variable V
 ",
-    );
+    )
 }
 
 // Questions.
-fn print_questions(fd: i32) {
+fn print_questions<W: Write>(out: &mut W) -> io::Result<()> {
     write(
-        fd,
+        out,
         b"ask A B             opens the question whether A fits under B, and works it: yes steps N, missing SUB SUP NAME steps N,
                     or mismatch SUB SUP steps N [SUB'S ENTRY] [SUP'S]; every 10000 steps are told on standard error
 equal A B           the same, whether A and B fit under each other; answers as ask
@@ -115,13 +117,13 @@ abandon             gives the open question up; one that was refused with steps 
 limit N             at most N steps for each ask and equal after this: more, and the question is given up; -1: no limit
 plain 1             leaves the limit aside from here on; 0: back
 ",
-    );
+    )
 }
 
 // The verbs that read.
-fn print_reads(fd: i32) {
+fn print_reads<W: Write>(out: &mut W) -> io::Result<()> {
     write(
-        fd,
+        out,
         b"entry N             entry N as dump shows it
 record REGION N     record N of entries, fields, bounds, visited, pending or equals (or 1 to 6), word by word
 state               the table's header: idle or asked, level, break, names, and each region's count/capacity
@@ -137,16 +139,16 @@ dump                all of the table: e ENTRY m MARK n NEGATION : KIND .., b VAR
 dumps               dump with the visited pairs sorted
 dot                 the table as a graph for Graphviz, on standard output
 ",
-    );
+    )
 }
 
 // Settings and the rest.
-fn print_settings(fd: i32) {
+fn print_settings<W: Write>(out: &mut W) -> io::Result<()> {
     write(
-        fd,
+        out,
         b"echo 1              shows every line before its answer; 0: no more
 time                milliseconds of the processor since the last time, on standard error
 help                this list
 ",
-    );
+    )
 }

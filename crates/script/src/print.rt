@@ -1,59 +1,57 @@
 // What is written: numbers with what stands before them, and words of the script in quotes.
 use printing::{write, write_one};
+use std::io;
+use std::io::Write;
 
 // How many bytes of a word are quoted.
 const QUOTED: usize = 40;
 
 // A number with a space before it.
-pub fn print_next(fd: i32, n: u32) {
-    write_one(fd, b" %", n);
+pub fn print_next<W: Write>(out: &mut W, n: u32) -> io::Result<()> {
+    write_one(out, b" %", n)
 }
 
 // A word of the script in quotes, cut where it is long; a byte that a terminal might not show as its number.
-pub fn print_quoted(fd: i32, word: &[u8]) {
-    write(fd, b"\"");
-    print_start(fd, word);
+pub fn print_quoted<W: Write>(out: &mut W, word: &[u8]) -> io::Result<()> {
+    write(out, b"\"")?;
+    print_start(out, word)?;
     if QUOTED < word.len() {
-        write(fd, b"..");
+        write(out, b"..")?;
     }
-    write(fd, b"\"");
+    write(out, b"\"")
 }
 
 // The first bytes of a word.
-fn print_start(fd: i32, word: &[u8]) {
-    let mut at: usize = 0;
-    while at < word.len() {
-        if at == QUOTED {
-            return;
-        }
-        print_byte(fd, word[at]);
-        at += 1;
+fn print_start<W: Write>(out: &mut W, word: &[u8]) -> io::Result<()> {
+    let shown = word.len().min(QUOTED);
+    for byte in &word[..shown] {
+        print_byte(out, *byte)?;
     }
+    Ok(())
 }
 
 // A byte.
-fn print_byte(fd: i32, byte: u8) {
+fn print_byte<W: Write>(out: &mut W, byte: u8) -> io::Result<()> {
     match byte {
-        b'"' | b'\\' => print_escaped(fd, byte),
-        32..=126 => print_one(fd, byte),
-        _ => print_hex(fd, byte),
+        b'"' | b'\\' => print_escaped(out, byte),
+        32..=126 => print_one(out, byte),
+        _ => print_hex(out, byte),
     }
 }
 
 // A byte as it is.
-fn print_one(fd: i32, byte: u8) {
+fn print_one<W: Write>(out: &mut W, byte: u8) -> io::Result<()> {
     let one = [byte];
-    write(fd, &one);
+    write(out, &one)
 }
 
 // A quote or a backslash.
-fn print_escaped(fd: i32, byte: u8) {
-    write(fd, b"\\");
-    print_one(fd, byte);
+fn print_escaped<W: Write>(out: &mut W, byte: u8) -> io::Result<()> {
+    write(out, b"\\")?;
+    print_one(out, byte)
 }
 
 // A byte as its number.
-fn print_hex(fd: i32, byte: u8) {
-    write(fd, b"\\x");
-    io::print_hex(fd, byte as u64, 2);
+fn print_hex<W: Write>(out: &mut W, byte: u8) -> io::Result<()> {
+    write!(out, "\\x{byte:02x}")
 }

@@ -7,14 +7,14 @@ use printing::place_of;
 const NUMBER_MOST: u64 = 4294967295;
 
 // A word, from its first byte to the one past its last; no word where both are the same.
-#[derive(Drop)]
+#[derive(Clone, Copy)]
 pub struct Word {
     pub start: usize,
     pub end: usize,
 }
 
 // What a word is as a number.
-#[derive(Drop)]
+#[derive(Clone, Copy)]
 pub enum Number {
     Value(u32),
     Large,
@@ -117,7 +117,7 @@ pub fn count_words(text: &[u8], from: usize) -> u32 {
     let mut count: u32 = 0;
     let mut at = word_at(text, from);
     while at < text.len() {
-        count = std::num::wrapping_add_u32(count, 1);
+        count = count.wrapping_add(1);
         let end = word_end(text, at);
         at = word_at(text, end);
     }
@@ -130,13 +130,11 @@ pub fn number_in(word: &[u8]) -> Number {
         return Number::Wrong;
     }
     let mut n: u64 = 0;
-    let mut at: usize = 0;
-    while at < word.len() {
-        if !is_digit(word[at]) {
+    for byte in word {
+        if !is_digit(*byte) {
             return Number::Wrong;
         }
-        n = joined(n, word[at]);
-        at += 1;
+        n = joined(n, *byte);
     }
     number_of(n)
 }

@@ -3,6 +3,8 @@ use crate::desk::{LINE, WRONG};
 use crate::print::print_quoted;
 use crate::verbs::ATTR;
 use printing::{write, write_one, write_three, write_two, write_word};
+use std::io;
+use std::io::Write;
 
 // Why a line is wrong, by its place in a list: of itself,
 pub const NO_QUESTION: u32 = 0;
@@ -34,78 +36,105 @@ pub const NOT_LISTED: u32 = 3;
 pub const NO_PLACE: u32 = 4;
 
 // The line's number.
-fn print_line(fd: i32, desk: &mut [u32; 10256]) {
-    desk[WRONG] = std::num::wrapping_add_u32(desk[WRONG], 1);
-    write_one(fd, b"error line %: ", desk[LINE]);
+fn print_line<W: Write>(out: &mut W, desk: &mut [u32; 10256]) -> io::Result<()> {
+    desk[WRONG] = desk[WRONG].wrapping_add(1);
+    write_one(out, b"error line %: ", desk[LINE])
 }
 
 // Why a line is wrong.
-pub fn wrong(fd: i32, desk: &mut [u32; 10256], why: u32) {
-    print_line(fd, desk);
+pub fn wrong<W: Write>(out: &mut W, desk: &mut [u32; 10256], why: u32) -> io::Result<()> {
+    print_line(out, desk)?;
     write_word(
-        fd,
+        out,
         b"held and open stand before ask or equal\n|held stands before open, each once\n|attr takes at most 4096 fields\n|a table takes at most 1024 label words\n|level goes at most 1000 levels up or down on one line\n",
         why,
-    );
+    )
 }
 
 // The same with a word at the end.
-pub fn wrong_after(fd: i32, desk: &mut [u32; 10256], why: u32, word: &[u8]) {
-    print_line(fd, desk);
+pub fn wrong_after<W: Write>(
+    out: &mut W,
+    desk: &mut [u32; 10256],
+    why: u32,
+    word: &[u8],
+) -> io::Result<()> {
+    print_line(out, desk)?;
     write_word(
-        fd,
+        out,
         b"held and open stand before ask or equal, not before |no verb |no region ",
         why,
-    );
-    print_quoted(fd, word);
-    write(fd, b"\n");
+    )?;
+    print_quoted(out, word)?;
+    write(out, b"\n")
 }
 
 // The same with a word at the start.
-pub fn wrong_word(fd: i32, desk: &mut [u32; 10256], word: &[u8], why: u32) {
-    print_line(fd, desk);
-    print_quoted(fd, word);
+pub fn wrong_word<W: Write>(
+    out: &mut W,
+    desk: &mut [u32; 10256],
+    word: &[u8],
+    why: u32,
+) -> io::Result<()> {
+    print_line(out, desk)?;
+    print_quoted(out, word)?;
     write_word(
-        fd,
+        out,
         b" is over 4294967295\n| is no number from 0 to 4294967295\n| has more than 255 bytes\n| is not in the name list\n| does not fit the name list: at most 4096 names and 65535 bytes\n",
         why,
-    );
+    )
 }
 
 // What a verb takes that takes no fixed number of numbers, and how much there is.
-pub fn wrong_count(fd: i32, desk: &mut [u32; 10256], verb: u32, got: u32) {
-    print_line(fd, desk);
+pub fn wrong_count<W: Write>(
+    out: &mut W,
+    desk: &mut [u32; 10256],
+    verb: u32,
+    got: u32,
+) -> io::Result<()> {
+    print_line(out, desk)?;
     write_word(
-        fd,
+        out,
         b"attr takes OPEN DYN N and N times NAME E OPT|named takes an entry and a label|names takes at most 4096 names|find takes 1 name|record takes a region and a number|work takes 1 number or none|limit takes a number or -1",
-        std::num::wrapping_sub_u32(verb, ATTR),
-    );
-    write_one(fd, b", got %\n", got);
+        verb.wrapping_sub(ATTR),
+    )?;
+    write_one(out, b", got %\n", got)
 }
 
 // How many numbers a verb takes, and how many words there are.
-pub fn wrong_numbers(fd: i32, desk: &mut [u32; 10256], verb: &[u8], takes: u32, got: u32) {
-    print_line(fd, desk);
-    write(fd, verb);
+pub fn wrong_numbers<W: Write>(
+    out: &mut W,
+    desk: &mut [u32; 10256],
+    verb: &[u8],
+    takes: u32,
+    got: u32,
+) -> io::Result<()> {
+    print_line(out, desk)?;
+    write(out, verb)?;
     if takes == 1 {
-        write_one(fd, b" takes 1 number, got %\n", got);
+        write_one(out, b" takes 1 number, got %\n", got)
     } else {
-        write_two(fd, b" takes % numbers, got %\n", takes, got);
+        write_two(out, b" takes % numbers, got %\n", takes, got)
     }
 }
 
 // How many words an attrset's line takes, and how many there are.
-pub fn wrong_fields(fd: i32, desk: &mut [u32; 10256], count: u32, takes: u32, got: u32) {
-    print_line(fd, desk);
+pub fn wrong_fields<W: Write>(
+    out: &mut W,
+    desk: &mut [u32; 10256],
+    count: u32,
+    takes: u32,
+    got: u32,
+) -> io::Result<()> {
+    print_line(out, desk)?;
     if count == 1 {
-        write_two(fd, b"attr of 1 field takes % words, got %\n", takes, got);
+        write_two(out, b"attr of 1 field takes % words, got %\n", takes, got)
     } else {
         write_three(
-            fd,
+            out,
             b"attr of % fields takes % words, got %\n",
             count,
             takes,
             got,
-        );
+        )
     }
 }
