@@ -1,0 +1,47 @@
+-- `bound_record`: reads the record of a bound, or refuses its number.
+use native.Mathlib.Omega.{arith}
+use mathlib.Core.Path.{refl, ap}
+use mathlib.Core.Bool.{◌&&◌}
+use Prim.Native.Nat.{◌<◌}
+use mathlib.Core.List.{List, ◌∷◌}
+use Prim.Native.Nat.{ℕ}
+use lib.Dec.{ltb}
+use Rattle.model.specs.Format.{is_region, width_of}
+use Rattle.model.specs.Image.{count, table}
+use Rattle.model.specs.Calls.{read_record_turn, response_of}
+use Rattle.model.specs.Told.{done}
+use Rattle.laws.proofs.Regions.{bound_coded}
+use Rattle.image.proofs.Laying.{formed_laid}
+use Rattle.image.proofs.Reading.{bounds_count as bounds-are}
+use Rattle.model.specs.declared.Refusal.TheVariants.{BadNumber}
+use Rattle.turns.proofs.Turning.{stopped, read_on}
+use Rattle.reads.proofs.Records.{no_record, a_record, record_words}
+use Rattle.reads.proofs.bound_record.Goals as goal
+
+pub bounds_count-requires : goal.bounds_count-requires
+bounds_count-requires c = formed_laid _ c.requires
+
+pub returns-then-bounds_count-n : goal.returns-then-bounds_count-n
+unfolding read_record_turn
+returns-then-bounds_count-n c =
+    let w = c.args.image.now in
+    (stopped w BadNumber _ (is_region 3 && ltb c.args.n (count w 3)) (no_record w 3 c.args.n (omega (arith, c.bounds_count.ensures, bounds-are w)))).says
+
+pub bound_word-variable_word-requires-clause-laid : goal.bound_word-variable_word-requires-clause-laid
+bound_word-variable_word-requires-clause-laid c = formed_laid _ c.requires
+
+pub bound_word-side_word-requires-clause-laid : goal.bound_word-side_word-requires-clause-laid
+bound_word-side_word-requires-clause-laid c = formed_laid _ c.requires
+
+pub bound_word-bound_word-requires-clause-laid : goal.bound_word-bound_word-requires-clause-laid
+bound_word-bound_word-requires-clause-laid c = formed_laid _ c.requires
+
+pub returns : goal.returns
+unfolding read_record_turn response_of width_of table
+returns c =
+    let w = c.args.image.now in
+    let n = c.args.n in
+    let l = formed_laid w c.requires in
+    let lt : n < count w 3 = omega (arith, c.bounds_count.ensures, bounds-are w) in
+    read_on w BadNumber _ (is_region 3 && ltb n (count w 3)) (a_record w 3 n refl lt)
+    (rw (c.bound_word-variable_word.ensures, c.bound_word-side_word.ensures, c.bound_word-bound_word.ensures) (ap (λ (x : List ℕ). done (3 ∷ x)) (record_words bound_coded w 3 n _ lt (omega arith))))

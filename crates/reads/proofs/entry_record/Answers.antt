@@ -1,0 +1,59 @@
+-- `entry_record`: reads the record of an entry, or refuses its number.
+use native.Mathlib.Omega.{arith}
+use mathlib.Core.Path.{refl, ap}
+use mathlib.Core.Bool.{◌&&◌}
+use Prim.Native.Nat.{◌<◌}
+use mathlib.Core.List.{List, ◌∷◌}
+use Prim.Native.Nat.{ℕ}
+use lib.Dec.{ltb}
+use Rattle.model.specs.Format.{is_region, width_of}
+use Rattle.model.specs.Image.{count, table}
+use Rattle.model.specs.Calls.{read_record_turn, response_of}
+use Rattle.model.specs.Told.{done}
+use Rattle.laws.proofs.Regions.{entry_coded}
+use Rattle.image.proofs.Laying.{formed_laid}
+use Rattle.image.proofs.Reading.{entries_count as entries-are}
+use Rattle.model.specs.declared.Refusal.TheVariants.{BadNumber}
+use Rattle.turns.proofs.Turning.{stopped, read_on}
+use Rattle.reads.proofs.Records.{no_record, a_record, record_words}
+use Rattle.reads.proofs.entry_record.Goals as goal
+
+pub entries_count-requires : goal.entries_count-requires
+entries_count-requires c = formed_laid _ c.requires
+
+pub returns-then-entries_count-n : goal.returns-then-entries_count-n
+unfolding read_record_turn
+returns-then-entries_count-n c =
+    let w = c.args.image.now in
+    (stopped w BadNumber _ (is_region 1 && ltb c.args.n (count w 1)) (no_record w 1 c.args.n (omega (arith, c.entries_count.ensures, entries-are w)))).says
+
+pub entry_word-kind_word-requires-clause-laid : goal.entry_word-kind_word-requires-clause-laid
+entry_word-kind_word-requires-clause-laid c = formed_laid _ c.requires
+
+pub entry_word-x_word-requires-clause-laid : goal.entry_word-x_word-requires-clause-laid
+entry_word-x_word-requires-clause-laid c = formed_laid _ c.requires
+
+pub entry_word-y_word-requires-clause-laid : goal.entry_word-y_word-requires-clause-laid
+entry_word-y_word-requires-clause-laid c = formed_laid _ c.requires
+
+pub entry_word-z_word-requires-clause-laid : goal.entry_word-z_word-requires-clause-laid
+entry_word-z_word-requires-clause-laid c = formed_laid _ c.requires
+
+pub entry_word-flags_word-requires-clause-laid : goal.entry_word-flags_word-requires-clause-laid
+entry_word-flags_word-requires-clause-laid c = formed_laid _ c.requires
+
+pub entry_word-spread_word-requires-clause-laid : goal.entry_word-spread_word-requires-clause-laid
+entry_word-spread_word-requires-clause-laid c = formed_laid _ c.requires
+
+pub entry_word-negation_word-requires-clause-laid : goal.entry_word-negation_word-requires-clause-laid
+entry_word-negation_word-requires-clause-laid c = formed_laid _ c.requires
+
+pub returns : goal.returns
+unfolding read_record_turn response_of width_of table
+returns c =
+    let w = c.args.image.now in
+    let n = c.args.n in
+    let l = formed_laid w c.requires in
+    let lt : n < count w 1 = omega (arith, c.entries_count.ensures, entries-are w) in
+    read_on w BadNumber _ (is_region 1 && ltb n (count w 1)) (a_record w 1 n refl lt)
+    (rw (c.entry_word-kind_word.ensures, c.entry_word-x_word.ensures, c.entry_word-y_word.ensures, c.entry_word-z_word.ensures, c.entry_word-flags_word.ensures, c.entry_word-spread_word.ensures, c.entry_word-negation_word.ensures) (ap (λ (x : List ℕ). done (1 ∷ x)) (record_words entry_coded w 1 n _ lt (omega arith))))

@@ -1,0 +1,47 @@
+-- `field_record`: reads the record of a field, or refuses its number.
+use native.Mathlib.Omega.{arith}
+use mathlib.Core.Path.{refl, ap}
+use mathlib.Core.Bool.{◌&&◌}
+use Prim.Native.Nat.{◌<◌}
+use mathlib.Core.List.{List, ◌∷◌}
+use Prim.Native.Nat.{ℕ}
+use lib.Dec.{ltb}
+use Rattle.model.specs.Format.{is_region, width_of}
+use Rattle.model.specs.Image.{count, table}
+use Rattle.model.specs.Calls.{read_record_turn, response_of}
+use Rattle.model.specs.Told.{done}
+use Rattle.laws.proofs.Regions.{field_coded}
+use Rattle.image.proofs.Laying.{formed_laid}
+use Rattle.image.proofs.Reading.{fields_count as fields-are}
+use Rattle.model.specs.declared.Refusal.TheVariants.{BadNumber}
+use Rattle.turns.proofs.Turning.{stopped, read_on}
+use Rattle.reads.proofs.Records.{no_record, a_record, record_words}
+use Rattle.reads.proofs.field_record.Goals as goal
+
+pub fields_count-requires : goal.fields_count-requires
+fields_count-requires c = formed_laid _ c.requires
+
+pub returns-then-fields_count-n : goal.returns-then-fields_count-n
+unfolding read_record_turn
+returns-then-fields_count-n c =
+    let w = c.args.image.now in
+    (stopped w BadNumber _ (is_region 2 && ltb c.args.n (count w 2)) (no_record w 2 c.args.n (omega (arith, c.fields_count.ensures, fields-are w)))).says
+
+pub field_word-name_word-requires-clause-laid : goal.field_word-name_word-requires-clause-laid
+field_word-name_word-requires-clause-laid c = formed_laid _ c.requires
+
+pub field_word-entry_word-requires-clause-laid : goal.field_word-entry_word-requires-clause-laid
+field_word-entry_word-requires-clause-laid c = formed_laid _ c.requires
+
+pub field_word-optional_word-requires-clause-laid : goal.field_word-optional_word-requires-clause-laid
+field_word-optional_word-requires-clause-laid c = formed_laid _ c.requires
+
+pub returns : goal.returns
+unfolding read_record_turn response_of width_of table
+returns c =
+    let w = c.args.image.now in
+    let n = c.args.n in
+    let l = formed_laid w c.requires in
+    let lt : n < count w 2 = omega (arith, c.fields_count.ensures, fields-are w) in
+    read_on w BadNumber _ (is_region 2 && ltb n (count w 2)) (a_record w 2 n refl lt)
+    (rw (c.field_word-name_word.ensures, c.field_word-entry_word.ensures, c.field_word-optional_word.ensures) (ap (λ (x : List ℕ). done (2 ∷ x)) (record_words field_coded w 2 n _ lt (omega arith))))

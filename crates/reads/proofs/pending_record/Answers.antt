@@ -1,0 +1,44 @@
+-- `pending_record`: reads the record of a pending pair, or refuses its number.
+use native.Mathlib.Omega.{arith}
+use mathlib.Core.Path.{refl, ap}
+use mathlib.Core.Bool.{◌&&◌}
+use Prim.Native.Nat.{◌<◌}
+use mathlib.Core.List.{List, ◌∷◌}
+use Prim.Native.Nat.{ℕ}
+use lib.Dec.{ltb}
+use Rattle.model.specs.Format.{is_region, width_of}
+use Rattle.model.specs.Image.{count, table}
+use Rattle.model.specs.Calls.{read_record_turn, response_of}
+use Rattle.model.specs.Told.{done}
+use Rattle.laws.proofs.Regions.{pending_coded}
+use Rattle.image.proofs.Laying.{formed_laid}
+use Rattle.image.proofs.Reading.{pending_count as pending-are}
+use Rattle.model.specs.declared.Refusal.TheVariants.{BadNumber}
+use Rattle.turns.proofs.Turning.{stopped, read_on}
+use Rattle.reads.proofs.Records.{no_record, a_record, record_words}
+use Rattle.reads.proofs.pending_record.Goals as goal
+
+pub pending_count-requires : goal.pending_count-requires
+pending_count-requires c = formed_laid _ c.requires
+
+pub returns-then-pending_count-n : goal.returns-then-pending_count-n
+unfolding read_record_turn
+returns-then-pending_count-n c =
+    let w = c.args.image.now in
+    (stopped w BadNumber _ (is_region 5 && ltb c.args.n (count w 5)) (no_record w 5 c.args.n (omega (arith, c.pending_count.ensures, pending-are w)))).says
+
+pub pending_word-sub_word-requires-clause-laid : goal.pending_word-sub_word-requires-clause-laid
+pending_word-sub_word-requires-clause-laid c = formed_laid _ c.requires
+
+pub pending_word-sup_word-requires-clause-laid : goal.pending_word-sup_word-requires-clause-laid
+pending_word-sup_word-requires-clause-laid c = formed_laid _ c.requires
+
+pub returns : goal.returns
+unfolding read_record_turn response_of width_of table
+returns c =
+    let w = c.args.image.now in
+    let n = c.args.n in
+    let l = formed_laid w c.requires in
+    let lt : n < count w 5 = omega (arith, c.pending_count.ensures, pending-are w) in
+    read_on w BadNumber _ (is_region 5 && ltb n (count w 5)) (a_record w 5 n refl lt)
+    (rw (c.pending_word-sub_word.ensures, c.pending_word-sup_word.ensures) (ap (λ (x : List ℕ). done (5 ∷ x)) (record_words pending_coded w 5 n _ lt (omega arith))))

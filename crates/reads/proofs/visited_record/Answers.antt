@@ -1,0 +1,44 @@
+-- `visited_record`: reads the record of a visited pair, or refuses its number.
+use native.Mathlib.Omega.{arith}
+use mathlib.Core.Path.{refl, ap}
+use mathlib.Core.Bool.{◌&&◌}
+use Prim.Native.Nat.{◌<◌}
+use mathlib.Core.List.{List, ◌∷◌}
+use Prim.Native.Nat.{ℕ}
+use lib.Dec.{ltb}
+use Rattle.model.specs.Format.{is_region, width_of}
+use Rattle.model.specs.Image.{count, table}
+use Rattle.model.specs.Calls.{read_record_turn, response_of}
+use Rattle.model.specs.Told.{done}
+use Rattle.laws.proofs.Regions.{visited_coded}
+use Rattle.image.proofs.Laying.{formed_laid}
+use Rattle.image.proofs.Reading.{visited_count as visited-are}
+use Rattle.model.specs.declared.Refusal.TheVariants.{BadNumber}
+use Rattle.turns.proofs.Turning.{stopped, read_on}
+use Rattle.reads.proofs.Records.{no_record, a_record, record_words}
+use Rattle.reads.proofs.visited_record.Goals as goal
+
+pub visited_count-requires : goal.visited_count-requires
+visited_count-requires c = formed_laid _ c.requires
+
+pub returns-then-visited_count-n : goal.returns-then-visited_count-n
+unfolding read_record_turn
+returns-then-visited_count-n c =
+    let w = c.args.image.now in
+    (stopped w BadNumber _ (is_region 4 && ltb c.args.n (count w 4)) (no_record w 4 c.args.n (omega (arith, c.visited_count.ensures, visited-are w)))).says
+
+pub visited_word-sub_word-requires-clause-laid : goal.visited_word-sub_word-requires-clause-laid
+visited_word-sub_word-requires-clause-laid c = formed_laid _ c.requires
+
+pub visited_word-sup_word-requires-clause-laid : goal.visited_word-sup_word-requires-clause-laid
+visited_word-sup_word-requires-clause-laid c = formed_laid _ c.requires
+
+pub returns : goal.returns
+unfolding read_record_turn response_of width_of table
+returns c =
+    let w = c.args.image.now in
+    let n = c.args.n in
+    let l = formed_laid w c.requires in
+    let lt : n < count w 4 = omega (arith, c.visited_count.ensures, visited-are w) in
+    read_on w BadNumber _ (is_region 4 && ltb n (count w 4)) (a_record w 4 n refl lt)
+    (rw (c.visited_word-sub_word.ensures, c.visited_word-sup_word.ensures) (ap (λ (x : List ℕ). done (4 ∷ x)) (record_words visited_coded w 4 n _ lt (omega arith))))
