@@ -1,11 +1,12 @@
 // The header's words, and the graph's label, which tells them.
-use libc::STDOUT_FILENO;
 use names::Counted;
 use printing::{print, print_one, print_word, write_each};
+use std::io;
+use std::io::Write;
 use table_words::{counts, word};
 
 // The break words: the failure that the table keeps, and in kind whether it keeps one.
-#[derive(Drop)]
+#[derive(Clone, Copy)]
 pub struct Break {
     pub kind: u32,
     pub sub: u32,
@@ -43,32 +44,33 @@ pub fn is_broken_at(image: &[u32], n: u32) -> bool {
 }
 
 // How the graph looks, and its label.
-pub fn draw_label(image: &[u32]) {
+pub fn draw_label<W: Write>(out: &mut W, image: &[u32]) -> io::Result<()> {
     print(
+        out,
         b"  graph [rankdir=TB, nodesep=0.4, ranksep=0.6, fontname=\"sans-serif\", fontsize=11];
   node [shape=box, style=\"rounded,filled\", fillcolor=\"#e8f0f8\", fontname=\"sans-serif\", fontsize=12];
   edge [fontname=\"sans-serif\", fontsize=10];
   label=\"",
-    );
-    print_state(image);
-    print_counts(image);
+    )?;
+    print_state(out, image)?;
+    print_counts(out, image)
 }
 
 // Whether a question is asked, whether one has failed, and the level.
-fn print_state(image: &[u32]) {
-    print_word(b"idle|asked", word(image, image::format::STATE_AT));
+fn print_state<W: Write>(out: &mut W, image: &[u32]) -> io::Result<()> {
+    print_word(out, b"idle|asked", word(image, image::format::STATE_AT))?;
     if word(image, image::format::BREAK_KIND_AT) != image::format::UNBROKEN {
-        print(b", broken");
+        print(out, b", broken")?;
     }
-    print_one(b", level %", word(image, image::format::LEVEL_AT));
+    print_one(out, b", level %", word(image, image::format::LEVEL_AT))
 }
 
 // How many records each region has.
-fn print_counts(image: &[u32]) {
+fn print_counts<W: Write>(out: &mut W, image: &[u32]) -> io::Result<()> {
     let numbers = counts(image);
     write_each(
-        STDOUT_FILENO,
+        out,
         b"\\nentries %, fields %, bounds %, visited %, pending %, equals %\";\n",
         &numbers,
-    );
+    )
 }
