@@ -85,13 +85,12 @@ fn words_of(image: &[u32], n: u32) -> Words
 }
 
 // What field record j asks of an attrset that has no field of its name.
-fn asks_dynamic(image: &[u32], a: Attrset, j: u32) -> FieldAsk
+fn asks_dynamic(image: &[u32], a: &Attrset, j: u32) -> FieldAsk
     requires laid { Laid image.now }
     requires j_in_bounds { j < length (fields_in image.now) }
-    ensures { result ≡ ask_dynamic a.dynamic a.is_open (field_at (fields_in image.now) j) }
+    ensures { result ≡ ask_dynamic a.now.dynamic a.now.is_open (field_at (fields_in image.now) j) }
 {
-    let dynamic = a.dynamic;
-    if let Dynamic::Present(n) = dynamic {
+    if let Dynamic::Present(n) = a.dynamic {
         return FieldAsk::Under(n);
     }
     if a.is_open {
@@ -104,11 +103,11 @@ fn asks_dynamic(image: &[u32], a: Attrset, j: u32) -> FieldAsk
 }
 
 // What field record j asks of the attrset a.
-pub fn asks(image: &[u32], a: Attrset, j: u32) -> FieldAsk
+pub fn asks(image: &[u32], a: &Attrset, j: u32) -> FieldAsk
     requires laid { Laid image.now }
-    requires inside { Inside (fields_in image.now) a }
+    requires inside { Inside (fields_in image.now) a.now }
     requires j_in_bounds { j < length (fields_in image.now) }
-    ensures { result ≡ ask_of a (fields_held (fields_in image.now) a) (field_at (fields_in image.now) j) }
+    ensures { result ≡ ask_of a.now (fields_held (fields_in image.now) a.now) (field_at (fields_in image.now) j) }
 {
     let name = image::field_word(image, j, image::format::NAME_WORD);
     let found = disjoint::field_named(image, a.first, a.count, name);
@@ -123,8 +122,8 @@ pub fn asks(image: &[u32], a: Attrset, j: u32) -> FieldAsk
 }
 
 // How many pairs the dynamic types make: one if both have one.
-fn both_dynamic(a: Dynamic, b: Dynamic) -> u32
-    ensures { (result ≡ both_dynamic a b) × (result ≤ 1) }
+fn both_dynamic(a: &Dynamic, b: &Dynamic) -> u32
+    ensures { (result ≡ both_dynamic a.now b.now) × (result ≤ 1) }
 {
     match a {
         Dynamic::Absent => 0,
@@ -146,7 +145,7 @@ fn gather(image: &[u32], a: Attrset, b: Attrset) -> Next
     let end = j + b.count;
     let mut n: u32 = 0;
     while j < end {
-        let ask = asks(image, a, j);
+        let ask = asks(image, &a, j);
         match ask {
             FieldAsk::Under(_) => {
                 n += 1;
@@ -158,9 +157,7 @@ fn gather(image: &[u32], a: Attrset, b: Attrset) -> Next
         }
         j += 1;
     }
-    let sub_dynamic = a.dynamic;
-    let sup_dynamic = b.dynamic;
-    let count = n + both_dynamic(sub_dynamic, sup_dynamic);
+    let count = n + both_dynamic(&a.dynamic, &b.dynamic);
     Next::Follow(Pairs::Fields(a, b, count))
 }
 

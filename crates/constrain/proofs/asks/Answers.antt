@@ -1,0 +1,21 @@
+-- By what the search for the name finds.
+use mathlib.Core.Path.{sym, ap, ◌∙◌}
+use Rattle.disjoint.proofs.Finding.{named_there}
+use Rattle.constrain.specs.declared.FieldAsk.TheVariants.{Under}
+use Rattle.constrain.proofs.Gathering.{named_by, ask_found, ask_nothing}
+use Rattle.constrain.proofs.asks.Goals as goal
+
+pub field_word-requires-clause-i_in_bounds : goal.field_word-requires-clause-i_in_bounds
+field_word-requires-clause-i_in_bounds c = named_there _ _ _ _ c.requires.inside (sym c.field_named-found.ensures ∙ c.in-At.is)
+
+pub returns-in-At : goal.returns-in-At
+returns-in-At c =
+    ap Under c.field_word.ensures
+    ∙ ask_found _ c.args.a.now c.requires.inside _
+    (named_by _ c.args.a.now c.field_word-name.ensures c.field_named-found.ensures c.in-At.is)
+
+pub returns-in-Nothing : goal.returns-in-Nothing
+returns-in-Nothing c =
+    c.asks_dynamic.ensures
+    ∙ ask_nothing _ c.args.a.now c.requires.inside _
+    (named_by _ c.args.a.now c.field_word-name.ensures c.field_named-found.ensures c.in-Nothing.is)
