@@ -9,7 +9,7 @@ use lib.Dec.{T, ltb}
 use borrow.Author.Tests.{lt-ltb, le-ltb}
 use Rattle.model.specs.Format.{spread_most, entries_region}
 use Rattle.model.specs.Table.{Entry, Table, with_entries}
-use Rattle.model.specs.Image.{words, table}
+use Rattle.model.specs.Image.{table}
 use Rattle.model.specs.Formed.{well_formed}
 use Rattle.model.specs.Making.{Making, spread_at, make_neg, too_deep, undone}
 use Rattle.model.specs.Told.{done, refused}

@@ -8,7 +8,7 @@ use lib.ListN.{length, take}
 use lib.Seq.{take-take, take-length, length-take-le, get_or-take}
 use borrow.Author.Tests.{lt-ltb, le-ltb}
 use Rattle.model.specs.Table.{Entry, Table, no_entry, entry_at, with_entries}
-use Rattle.model.specs.Image.{words, table}
+use Rattle.model.specs.Image.{table}
 use Rattle.model.specs.Making.{changed, with_negation, reset, undone}
 use Rattle.laws.proofs.Entries.{lt_or_ge, same_or_not, changed_length, changed_at, changed_other}
 use Rattle.laws.proofs.Undone.{undone_is}

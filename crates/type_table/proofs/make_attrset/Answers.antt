@@ -1,0 +1,60 @@
+-- `make_attrset`: makes an attrset with the fields of a list, triples of a name, an entry and optional.
+use Prim.Native.Nat.{◌+◌}
+use native.Mathlib.Omega.{arith}
+use mathlib.Core.Path.{sym}
+use Rattle.image.proofs.Laying.{formed_shown, formed_laid, shown}
+use Rattle.type_table.proofs.Attrsets.{fields_count, entry_room, attrset_full, attrset_lacks, attrset_done}
+use Rattle.type_table.proofs.make_attrset.Goals as goal
+
+pub entries_count-number-requires : goal.entries_count-number-requires
+entries_count-number-requires c = formed_laid _ c.requires
+
+pub entries_capacity-requires : goal.entries_capacity-requires
+entries_capacity-requires c = formed_laid _ c.requires
+
+pub returns-then-entries_capacity-number : goal.returns-then-entries_capacity-number
+returns-then-entries_capacity-number c =
+    let a = c.args in
+    let r = attrset_full a.image.now a.fields.now a.is_open a.dynamic c.requires _ _ c.entries_count-number.ensures c.entries_capacity.ensures c.if-entries_capacity-number.true in
+    record { result_value = r.0; image_after = r.1 }
+
+pub fields_count-old-requires : goal.fields_count-old-requires
+fields_count-old-requires c = formed_laid _ c.requires
+
+pub fields_capacity-requires : goal.fields_capacity-requires
+fields_capacity-requires c = formed_laid _ c.requires
+
+pub overflow_sub-room : goal.overflow_sub-room
+overflow_sub-room c = omega (arith, c.fields_capacity.ensures, c.fields_count-old.ensures, (formed_shown _ c.requires).within.held.fields)
+
+pub returns-then-wide-n : goal.returns-then-wide-n
+returns-then-wide-n c =
+    let a = c.args in
+    let r = attrset_lacks a.image.now a.fields.now a.is_open a.dynamic c.requires _ _ c.entries_count-number.ensures c.entries_capacity.ensures _ _ _ c.if-entries_capacity-number.false
+    c.fields_count-old.ensures c.fields_capacity.ensures (sym (fields_count a.fields.now)) (omega (arith, c.wide.ensures, c.if-wide-n.true)) in
+    record { result_value = r.0; image_after = r.1 }
+
+pub put_fields-requires-clause-shown : goal.put_fields-requires-clause-shown
+put_fields-requires-clause-shown c = formed_shown _ c.requires
+
+pub put_fields-requires-clause-n_value : goal.put_fields-requires-clause-n_value
+put_fields-requires-clause-n_value c = sym (fields_count c.args.fields.now)
+
+pub put_fields-requires-clause-n_len_bound : goal.put_fields-requires-clause-n_len_bound
+put_fields-requires-clause-n_len_bound c = omega (arith, (formed_shown _ c.requires).within.held.fields, c.fields_count-old.ensures, c.fields_capacity.ensures, c.wide.ensures, c.if-wide-n.false)
+
+pub push_entry-requires-clause-shown : goal.push_entry-requires-clause-shown
+push_entry-requires-clause-shown c = shown c.put_fields.ensures
+
+pub push_entry-requires-clause-image_len_bound : goal.push_entry-requires-clause-image_len_bound
+push_entry-requires-clause-image_len_bound c = entry_room _ _ _ c.put_fields.ensures (omega (arith, c.entries_count-number.ensures, c.entries_capacity.ensures, c.if-entries_capacity-number.false))
+
+pub returns : goal.returns
+returns c =
+    let a = c.args in
+    let r = attrset_done a.image.now a.fields.now a.is_open a.dynamic c.requires _ _ c.entries_count-number.ensures c.entries_capacity.ensures _ _ _ c.if-entries_capacity-number.false
+    c.fields_count-old.ensures c.fields_capacity.ensures (sym (fields_count a.fields.now))
+    (omega (arith, (formed_shown _ c.requires).within.held.fields, c.fields_count-old.ensures, c.fields_capacity.ensures, c.wide.ensures, c.if-wide-n.false))
+    c.first_field-first.result c.dynamic_type-typed.result (c.open_bit.result + c.dynamic_bit.result) c.first_field-first.ensures c.dynamic_type-typed.ensures
+    (rw (c.open_bit.ensures.0, c.dynamic_bit.ensures.0)) _ _ c.put_fields.ensures c.push_entry.ensures in
+    record { result_value = r.0; image_after = r.1 }

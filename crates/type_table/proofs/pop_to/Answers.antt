@@ -1,0 +1,20 @@
+-- `pop_to`: takes off every entry from number old on.
+use native.Mathlib.Omega.{arith}
+use Rattle.image.proofs.Laying.{shown_laid}
+use Rattle.type_table.proofs.Undoing.{popped_start, popped_shows, popped_more}
+use Rattle.type_table.proofs.pop_to.Goals as goal
+
+pub loop-image-init : goal.loop-image-init
+loop-image-init c = popped_start _ _ c.requires.shown c.requires.in_bounds
+
+pub entries_count-requires : goal.entries_count-requires
+entries_count-requires c = shown_laid (popped_shows _ _ _ c.loop-image.invariant)
+
+pub pop_entry-requires-clause-shown : goal.pop_entry-requires-clause-shown
+pop_entry-requires-clause-shown c = popped_shows _ _ _ c.loop-image.invariant
+
+pub loop-image-smaller : goal.loop-image-smaller
+loop-image-smaller c = (popped_more _ _ _ c.loop-image.invariant _ (omega (arith, c.entries_count.ensures, c.loop-image-test.true)) c.pop_entry.ensures).1
+
+pub loop-image-preserved : goal.loop-image-preserved
+loop-image-preserved c = (popped_more _ _ _ c.loop-image.invariant _ (omega (arith, c.entries_count.ensures, c.loop-image-test.true)) c.pop_entry.ensures).0

@@ -1,0 +1,11 @@
+-- What the loops of `undo` keep, and why they end.
+use Prim.Native.Nat.{◌-◌}
+use Rattle.model.specs.Image.{table}
+use Rattle.type_table.proofs.Undoing.{Put}
+use Rattle.type_table.proofs.undo.Given as goal
+
+abbrev pub invariant-loop-i : goal.invariant-loop-i
+invariant-loop-i l = Put (table l.initial.image) l.old l.i l.image
+
+abbrev pub decreases-loop-i : goal.decreases-loop-i
+decreases-loop-i l = l.old - l.i
