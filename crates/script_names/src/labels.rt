@@ -5,6 +5,8 @@ ghost use Rattle.std.specs.Prelude.{◌≤◌};
 use printing::{is, write, write_number};
 use script::desk::{LABELS, LABELS_AT, keep, kept};
 use script::text::{Number, Word, bytes_of, narrow, number_in, part};
+use std::io;
+use std::io::Write;
 use table_words::wide;
 
 // A table takes at most so many label words.
@@ -52,7 +54,7 @@ fn label_word(text: &[u8], desk: &[u32; 10256], word: Word) -> Label {
     if MOST <= at {
         return Label::Full;
     }
-    Label::Number(std::num::wrapping_add_u32(FIRST, at))
+    Label::Number(FIRST.wrapping_add(at))
 }
 
 // Keeps the word of a label's number, if it is new.
@@ -68,7 +70,7 @@ pub fn keep_new(desk: &mut [u32; 10256], number: u32, word: Word) {
 
 // Keeps a new label word.
 fn keep_label(desk: &mut [u32; 10256], at: u32, word: Word) {
-    desk[LABELS] = std::num::wrapping_add_u32(at, 1);
+    desk[LABELS] = at.wrapping_add(1);
     let place = place_of(at);
     keep(desk, place, narrow(word.start));
     keep(desk, place + 1, narrow(word.end));
@@ -84,14 +86,12 @@ fn place_of(at: u32) -> usize
 // The place of a label word among those of the table; their count where it is new.
 fn find(text: &[u8], desk: &[u32; 10256], bytes: &[u8]) -> u32 {
     let count = kept(desk, LABELS);
-    let mut at: u32 = 0;
-    while at < count {
+    for at in 0..count {
         if is(kept_label(text, desk, at), bytes) {
             return at;
         }
-        at += 1;
     }
-    at
+    count
 }
 
 // A label word that was kept.
@@ -103,9 +103,14 @@ fn kept_label<'a>(text: &'a [u8], desk: &[u32; 10256], at: u32) -> &'a [u8] {
 }
 
 // A label as the script has it.
-pub fn print_label(fd: i32, text: &[u8], desk: &[u32; 10256], n: u32) {
+pub fn print_label<W: Write>(
+    out: &mut W,
+    text: &[u8],
+    desk: &[u32; 10256],
+    n: u32,
+) -> io::Result<()> {
     if n < FIRST {
-        return write_number(fd, n);
+        return write_number(out, n);
     }
-    write(fd, kept_label(text, desk, n - FIRST));
+    write(out, kept_label(text, desk, n - FIRST))
 }
