@@ -5,7 +5,6 @@ use mathlib.Core.Path.{◌≡◌, refl, sym, ap, ◌∙◌, subst}
 use mathlib.Core.List.{List, [], ◌∷◌}
 use mathlib.Core.Option.{Option, none, some}
 use mathlib.Core.Bool.{true, not, false}
-use mathlib.Core.Logic.{◌↔◌}
 use lib.Dec.{T}
 use Rattle.instalments.specs.Machine.{yes_in, fail_in, more_at, Roomed, answered, refused_in}
 use Rattle.instalments.specs.Machine as machine

@@ -1,4 +1,3 @@
 // Histories, over any rule: definitions and laws alone, no code.
 
 #![tactic(auto)]
-

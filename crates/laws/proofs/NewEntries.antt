@@ -1,16 +1,15 @@
 -- Each new entry is good. Assumes nothing.
-use Prim.Native.Nat.{ℕ, ◌+◌, ◌*◌, ◌-◌, ◌≤◌, ◌<◌, ◌/◌, ◌%◌}
+use Prim.Native.Nat.{ℕ, ◌+◌, ◌*◌, ◌≤◌, ◌<◌, ◌/◌, ◌%◌}
 use native.Mathlib.Omega.{arith}
-use mathlib.Core.Path.{◌≡◌, refl, sym, ap, ◌∙◌}
+use mathlib.Core.Path.{◌≡◌, refl, sym, ap}
 use mathlib.Core.List.{List, [], ◌∷◌, ◌++◌}
 use mathlib.Core.Bool.{Bool, true, false, cond, ◌&&◌, ◌||◌}
-use mathlib.Core.Logic.{◌⊎◌, ⊎_elim}
-use lib.ListN.{length, take, drop, length-append, get_or-append}
+use lib.ListN.{length, take, drop, length-append}
 use lib.Seq.{drop-append_seam, take-length}
 use lib.Dec.{T, eqb, leb, ltb, eqb-suc-zero}
 use Rattle.model.specs.Lists.{◌⇒◌, is_zero, all_of, all}
 use Rattle.model.specs.Format.{word_end, variable, primitive, list, lambda, attrset, named, neg, inter, union, number, open_flag}
-use Rattle.model.specs.Table.{Entry, Field, ◌⊑◌}
+use Rattle.model.specs.Table.{Entry, Field}
 use Rattle.model.specs.Making.{spread_of, fresh_entry, put_entry, new_entry}
 use Rattle.model.specs.Formed.{is_entry, kind_known, primitive_known, components_below, unused_zero, flags_known, negation_known, names_ascend, fields_right}
 use Rattle.model.specs.Told.{bit}

@@ -1,5 +1,5 @@
 -- The operators on primitives, as document 01's table has them, and the three calls. Assumes nothing.
-use Rattle.std.specs.Prelude.{ℕ, [], ◌∷◌, Bool, true, false, cond, ◌&&◌, ◌||◌, eqb, leb}
+use Rattle.std.specs.Prelude.{ℕ, [], ◌∷◌, Bool, cond, ◌&&◌, ◌||◌, eqb, leb}
 use Rattle.model.specs.Told.{Told, done, told_refusal}
 use Rattle.model.specs.declared.Refusal.TheVariants as F
 use Rattle.operators.specs.declared.Resolved.{Resolved}

@@ -5,8 +5,7 @@ use Rattle.model.specs.Image.{visited_of}
 use Rattle.model.specs.Table.{◌⊑◌}
 use Rattle.model.specs.Lists.{any, read_many}
 use borrow.Author.Rules.{rules}
-use mathlib.Core.Bool.{false}
-use Prim.Native.Nat.{◌-◌, ◌*◌}
+use Prim.Native.Nat.{◌*◌}
 use mathlib.Core.Path.{refl, sym}
 use native.Mathlib.Omega.{arith}
 use Rattle.image.proofs.has_pair.Goals as goal
