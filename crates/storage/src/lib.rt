@@ -81,6 +81,7 @@ pub fn has_bound(image: &[u32], n: u32, v: u32, side: u32, b: u32) -> bool
 }
 
 // Whether b would repeat a bound of v on a side: a longer list is not scanned.
+#[tactic(auto, using(crate::proofs::Replying::scanned, crate::proofs::Replying::not_scanned))]
 pub fn repeats_bound(image: &[u32], n: u32, v: u32, side: u32, b: u32) -> bool
     requires laid { Laid image.now }
     requires n_value { n ≡ length (bounds_all image.now) }
