@@ -1,0 +1,41 @@
+-- `mark_in`: marks an entry, in a well formed image.
+use native.Mathlib.Omega.{arith}
+use mathlib.Core.Path.{sym, ◌∙◌}
+use Rattle.model.specs.Formed.{is_entry}
+use Rattle.model.specs.Calls.{mark_turn}
+use Rattle.image.specs.Shown.{entries_of}
+use Rattle.image.proofs.Laying.{formed_laid, formed_shown}
+use Rattle.model.specs.declared.Refusal.TheVariants.{BadNumber}
+use Rattle.turns.proofs.Turning.{busy, idle, stopped, gone_on, no_entry, an_entry, left_as}
+use Rattle.changes.proofs.mark_in.Goals as goal
+
+pub is_asked-requires : goal.is_asked-requires
+is_asked-requires c = formed_shown _ c.requires
+
+pub returns-then-is_asked : goal.returns-then-is_asked
+unfolding mark_turn
+returns-then-is_asked c =
+    let k = busy c.args.image.now _ (sym c.is_asked.ensures ∙ c.if-is_asked.true) in
+    record { result_value = k.says; image_after = k.leaves }
+
+pub entries_count-requires : goal.entries_count-requires
+entries_count-requires c = formed_laid _ c.requires
+
+pub returns-then-entries_count-n : goal.returns-then-entries_count-n
+unfolding mark_turn
+returns-then-entries_count-n c =
+    let w = c.args.image.now in
+    let k = idle w _ (sym c.is_asked.ensures ∙ c.if-is_asked.false) (stopped w BadNumber _ (is_entry (entries_of w) c.args.n) (no_entry (entries_of w) c.args.n (omega (arith, c.entries_count.ensures)))) in
+    record { result_value = k.says; image_after = k.leaves }
+
+pub mark-requires-clause-shown : goal.mark-requires-clause-shown
+mark-requires-clause-shown c = formed_shown _ c.requires
+
+pub returns : goal.returns
+unfolding mark_turn
+returns c =
+    let w = c.args.image.now in
+    let k = idle w _ (sym c.is_asked.ensures ∙ c.if-is_asked.false)
+    (gone_on w BadNumber _ (is_entry (entries_of w) c.args.n) (an_entry (entries_of w) c.args.n (omega (arith, c.entries_count.ensures)))
+    (left_as w _ _ c.mark.ensures)) in
+    record { result_value = k.says; image_after = k.leaves }

@@ -1,0 +1,39 @@
+-- `one_in`: makes an entry of one component, in a well formed image.
+use native.Mathlib.Omega.{arith}
+use mathlib.Core.Path.{sym, ◌∙◌}
+use Rattle.model.specs.Formed.{is_entry}
+use Rattle.model.specs.Calls.{one_turn, new_turn}
+use Rattle.image.specs.Shown.{entries_of}
+use Rattle.image.proofs.Laying.{formed_laid, formed_shown}
+use Rattle.model.specs.declared.Refusal.TheVariants.{BadNumber}
+use Rattle.turns.proofs.Turning.{busy, idle, stopped, gone_on, no_entry, an_entry}
+use Rattle.changes.proofs.one_in.Goals as goal
+
+pub is_asked-requires : goal.is_asked-requires
+is_asked-requires c = formed_shown _ c.requires.t
+
+pub returns-then-is_asked : goal.returns-then-is_asked
+unfolding one_turn
+returns-then-is_asked c =
+    let k = busy c.args.image.now _ (sym c.is_asked.ensures ∙ c.if-is_asked.true) in
+    record { result_value = k.says; image_after = k.leaves }
+
+pub entries_count-requires : goal.entries_count-requires
+entries_count-requires c = formed_laid _ c.requires.t
+
+pub returns-then-entries_count-x : goal.returns-then-entries_count-x
+unfolding one_turn
+returns-then-entries_count-x c =
+    let w = c.args.image.now in
+    let k = idle w _ (sym c.is_asked.ensures ∙ c.if-is_asked.false)
+    (stopped w BadNumber _ (is_entry (entries_of w) c.args.x) (no_entry (entries_of w) c.args.x (omega (arith, c.entries_count.ensures)))) in
+    record { result_value = k.says; image_after = k.leaves }
+
+pub returns : goal.returns
+unfolding one_turn new_turn
+returns c =
+    let w = c.args.image.now in
+    let k = idle w _ (sym c.is_asked.ensures ∙ c.if-is_asked.false)
+    (gone_on w BadNumber _ (is_entry (entries_of w) c.args.x) (an_entry (entries_of w) c.args.x (omega (arith, c.entries_count.ensures)))
+    (record { says = c.make.ensures.result_value; leaves = c.make.ensures.image_after })) in
+    record { result_value = k.says; image_after = k.leaves }
