@@ -125,7 +125,7 @@ fn follow(image: &mut [u32], sub: u32, sup: u32, pairs: Pairs) -> Step
     ensures value { result ≡ (taken image.old (goes (visit (sub ⊑ sup) (store_of image.old)) (pairs_in (fields_in image.old) pairs))).says }
     ensures image_after { image.new ≡ (taken image.old (goes (visit (sub ⊑ sup) (store_of image.old)) (pairs_in (fields_in image.old) pairs))).words }
 {
-    let room = room_for(image, consequences::count_of(pairs));
+    let room = room_for(image, consequences::count_of(&pairs));
     if let StepRoom::Lacks(r) = room {
         return Step::Refused(r);
     }
