@@ -225,7 +225,8 @@ fn follow_functor(image: &mut [u32], sub: u32, sup: u32, f: u32, param: u32, bod
     ensures image_after { image.new ≡ (taken image.old (outcome_for (store_of image.old) (sub ⊑ sup) (Functor f param body))).words }
 {
     let old = image::entries_count(image);
-    if image::entries_capacity(image) - old < 2 {
+    let needed = 2;
+    if image::entries_capacity(image) - old < needed {
         return Step::Refused(Refusal::NoRoom(image::format::ENTRIES));
     }
     writes::push_entry(image, image::format::LAMBDA, param, body, 0, 0, 1);

@@ -1,5 +1,4 @@
 -- The loop's invariant: no entry before i is too deep.
-use Prim.Native.Nat.{◌-◌}
 use native.Mathlib.Omega.{arith}
 use mathlib.Core.Path.{sym}
 use Rattle.step.proofs.Settling.{shallow_old, deep_none, deep_hit}
