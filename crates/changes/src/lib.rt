@@ -91,13 +91,13 @@ pub fn neg_in(image: &mut [u32], n: u32) -> Made
 }
 
 // Whether a dynamic type, where there is one, is an entry.
-fn dynamic_known(image: &[u32], dynamic: &Dynamic) -> bool
+fn dynamic_known(image: &[u32], dynamic: Dynamic) -> bool
     requires { T (well_formed image.now) }
-    ensures { result ≡ dynamic_known (entries_of image.now) dynamic.now }
+    ensures { result ≡ dynamic_known (entries_of image.now) dynamic }
 {
     match dynamic {
         Dynamic::Absent => true,
-        Dynamic::Present(n) => *n < image::entries_count(image),
+        Dynamic::Present(n) => n < image::entries_count(image),
     }
 }
 
@@ -116,7 +116,7 @@ pub fn attrset_in(image: &mut [u32], fields: &[u32], is_open: bool, dynamic: Dyn
     if !field_list::known(image::entries_count(image), fields) {
         return Made::Refused(Refusal::BadNumber);
     }
-    if !dynamic_known(image, &dynamic) {
+    if !dynamic_known(image, dynamic) {
         return Made::Refused(Refusal::BadNumber);
     }
     type_table::make_attrset(image, fields, is_open, dynamic)

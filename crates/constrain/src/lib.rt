@@ -21,7 +21,7 @@ use disjoint::FieldFound;
 use model::{Attrset, Dynamic, Entry};
 
 // The consequences of a pair, the first to be worked first.
-#[derive(Drop)]
+#[derive(Clone, Copy)]
 pub enum Pairs {
     Nothing,
     One(u32, u32),
@@ -31,7 +31,7 @@ pub enum Pairs {
 }
 
 // What a pair comes to.
-#[derive(Drop)]
+#[derive(Clone, Copy)]
 pub enum Next {
     Mismatch,
     // the name of the field
@@ -48,7 +48,7 @@ pub enum Next {
 }
 
 // The words of an entry that the rules read.
-#[derive(Drop)]
+#[derive(Clone, Copy)]
 pub struct Words {
     pub kind: u32,
     pub x: u32,
@@ -56,7 +56,7 @@ pub struct Words {
 }
 
 // What a field of sup asks of sub: an entry under its own, nothing, or it is missing.
-#[derive(Drop)]
+#[derive(Clone, Copy)]
 pub enum FieldAsk {
     Under(u32),
     Nothing,
@@ -85,12 +85,13 @@ fn words_of(image: &[u32], n: u32) -> Words
 }
 
 // What field record j asks of an attrset that has no field of its name.
-fn asks_dynamic(image: &[u32], a: &Attrset, j: u32) -> FieldAsk
+fn asks_dynamic(image: &[u32], a: Attrset, j: u32) -> FieldAsk
     requires laid { Laid image.now }
     requires j_in_bounds { j < length (fields_in image.now) }
-    ensures { result ≡ ask_dynamic a.now.dynamic a.now.is_open (field_at (fields_in image.now) j) }
+    ensures { result ≡ ask_dynamic a.dynamic a.is_open (field_at (fields_in image.now) j) }
 {
-    if let Dynamic::Present(n) = a.dynamic {
+    let dynamic = a.dynamic;
+    if let Dynamic::Present(n) = dynamic {
         return FieldAsk::Under(n);
     }
     if a.is_open {
@@ -103,11 +104,11 @@ fn asks_dynamic(image: &[u32], a: &Attrset, j: u32) -> FieldAsk
 }
 
 // What field record j asks of the attrset a.
-pub fn asks(image: &[u32], a: &Attrset, j: u32) -> FieldAsk
+pub fn asks(image: &[u32], a: Attrset, j: u32) -> FieldAsk
     requires laid { Laid image.now }
-    requires inside { Inside (fields_in image.now) a.now }
+    requires inside { Inside (fields_in image.now) a }
     requires j_in_bounds { j < length (fields_in image.now) }
-    ensures { result ≡ ask_of a.now (fields_held (fields_in image.now) a.now) (field_at (fields_in image.now) j) }
+    ensures { result ≡ ask_of a (fields_held (fields_in image.now) a) (field_at (fields_in image.now) j) }
 {
     let name = image::field_word(image, j, image::format::NAME_WORD);
     let found = disjoint::field_named(image, a.first, a.count, name);
@@ -122,8 +123,8 @@ pub fn asks(image: &[u32], a: &Attrset, j: u32) -> FieldAsk
 }
 
 // How many pairs the dynamic types make: one if both have one.
-fn both_dynamic(a: &Dynamic, b: &Dynamic) -> u32
-    ensures { (result ≡ both_dynamic a.now b.now) × (result ≤ 1) }
+fn both_dynamic(a: Dynamic, b: Dynamic) -> u32
+    ensures { (result ≡ both_dynamic a b) × (result ≤ 1) }
 {
     match a {
         Dynamic::Absent => 0,
@@ -145,7 +146,7 @@ fn gather(image: &[u32], a: Attrset, b: Attrset) -> Next
     let end = j + b.count;
     let mut n: u32 = 0;
     while j < end {
-        let ask = asks(image, &a, j);
+        let ask = asks(image, a, j);
         match ask {
             FieldAsk::Under(_) => {
                 n += 1;
@@ -157,7 +158,9 @@ fn gather(image: &[u32], a: Attrset, b: Attrset) -> Next
         }
         j += 1;
     }
-    let count = n + both_dynamic(&a.dynamic, &b.dynamic);
+    let sub_dynamic = a.dynamic;
+    let sup_dynamic = b.dynamic;
+    let count = n + both_dynamic(sub_dynamic, sup_dynamic);
     Next::Follow(Pairs::Fields(a, b, count))
 }
 

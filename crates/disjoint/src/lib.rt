@@ -17,14 +17,14 @@ ghost use Rattle.disjoint.specs.Shapes.{shape_of, ShapeInside, lacks_some, close
 use model::{Attrset, Entry};
 
 // A field record by its number, if there is one.
-#[derive(Drop)]
+#[derive(Clone, Copy)]
 pub enum FieldFound {
     At(u32),
     Nothing,
 }
 
 // A type's top-level constructor, as far as disjointness asks.
-#[derive(Drop)]
+#[derive(Clone, Copy)]
 pub enum Shape {
     Primitive(u32),
     AttrSet(Attrset),
@@ -99,20 +99,20 @@ pub fn has_functor(image: &[u32], n: u32) -> bool
 }
 
 // Whether the attrset has a field `__functor`, which makes it callable.
-fn is_callable(image: &[u32], a: &Attrset) -> bool
+fn is_callable(image: &[u32], a: Attrset) -> bool
     requires laid { Laid image.now }
-    requires inside { Inside (fields_in image.now) a.now }
-    ensures { result ≡ callable (graph_in image.now) a.now }
+    requires inside { Inside (fields_in image.now) a }
+    ensures { result ≡ callable (graph_in image.now) a }
 {
     is_found(functor_among(image, a.first, a.count))
 }
 
 // Whether field record j is not optional, and no field of a has its name.
-fn lacks_field(image: &[u32], a: &Attrset, j: u32) -> bool
+fn lacks_field(image: &[u32], a: Attrset, j: u32) -> bool
     requires laid { Laid image.now }
-    requires inside { Inside (fields_in image.now) a.now }
+    requires inside { Inside (fields_in image.now) a }
     requires j_in_bounds { j < length (fields_in image.now) }
-    ensures { result ≡ lacks_field (fields_held (fields_in image.now) a.now) (field_at (fields_in image.now) j) }
+    ensures { result ≡ lacks_field (fields_held (fields_in image.now) a) (field_at (fields_in image.now) j) }
 {
     if image::field_word(image, j, image::format::OPTIONAL_WORD) != 0 {
         return false;
@@ -122,11 +122,11 @@ fn lacks_field(image: &[u32], a: &Attrset, j: u32) -> bool
 }
 
 // Whether some field of b is not optional and no field of a.
-fn lacks_some(image: &[u32], a: &Attrset, b: &Attrset) -> bool
+fn lacks_some(image: &[u32], a: Attrset, b: Attrset) -> bool
     requires laid { Laid image.now }
-    requires inside { Inside (fields_in image.now) a.now }
-    requires inside_2 { Inside (fields_in image.now) b.now }
-    ensures { result ≡ lacks_some (fields_in image.now) a.now b.now }
+    requires inside { Inside (fields_in image.now) a }
+    requires inside_2 { Inside (fields_in image.now) b }
+    ensures { result ≡ lacks_some (fields_in image.now) a b }
 {
     let mut j = b.first;
     let end = j + b.count;
@@ -140,11 +140,11 @@ fn lacks_some(image: &[u32], a: &Attrset, b: &Attrset) -> bool
 }
 
 // Whether a is closed, and lacks a field that b requires.
-fn closed_lacks(image: &[u32], a: &Attrset, b: &Attrset) -> bool
+fn closed_lacks(image: &[u32], a: Attrset, b: Attrset) -> bool
     requires laid { Laid image.now }
-    requires inside { Inside (fields_in image.now) a.now }
-    requires inside_2 { Inside (fields_in image.now) b.now }
-    ensures { result ≡ closed_lacks_in (fields_in image.now) a.now b.now }
+    requires inside { Inside (fields_in image.now) a }
+    requires inside_2 { Inside (fields_in image.now) b }
+    ensures { result ≡ closed_lacks_in (fields_in image.now) a b }
 {
     if a.is_open {
         return false;
@@ -153,11 +153,11 @@ fn closed_lacks(image: &[u32], a: &Attrset, b: &Attrset) -> bool
 }
 
 // Whether one is closed, and lacks a field that the other requires.
-fn attrsets_disjoint(image: &[u32], a: &Attrset, b: &Attrset) -> bool
+fn attrsets_disjoint(image: &[u32], a: Attrset, b: Attrset) -> bool
     requires laid { Laid image.now }
-    requires inside { Inside (fields_in image.now) a.now }
-    requires inside_2 { Inside (fields_in image.now) b.now }
-    ensures { result ≡ attrsets_disjoint_in (fields_in image.now) a.now b.now }
+    requires inside { Inside (fields_in image.now) a }
+    requires inside_2 { Inside (fields_in image.now) b }
+    ensures { result ≡ attrsets_disjoint_in (fields_in image.now) a b }
 {
     if closed_lacks(image, a, b) {
         return true;
@@ -225,9 +225,9 @@ fn are_shapes_disjoint(image: &[u32], a: Shape, b: Shape) -> bool
         },
         Shape::AttrSet(x) => match b {
             Shape::Primitive(_) => true,
-            Shape::AttrSet(y) => attrsets_disjoint(image, &x, &y),
+            Shape::AttrSet(y) => attrsets_disjoint(image, x, y),
             Shape::List => true,
-            Shape::Lambda => !is_callable(image, &x),
+            Shape::Lambda => !is_callable(image, x),
             Shape::Opaque => false,
         },
         Shape::List => match b {
@@ -239,7 +239,7 @@ fn are_shapes_disjoint(image: &[u32], a: Shape, b: Shape) -> bool
         },
         Shape::Lambda => match b {
             Shape::Primitive(_) => true,
-            Shape::AttrSet(y) => !is_callable(image, &y),
+            Shape::AttrSet(y) => !is_callable(image, y),
             Shape::List => true,
             Shape::Lambda => false,
             Shape::Opaque => false,

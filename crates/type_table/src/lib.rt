@@ -181,18 +181,18 @@ fn first_field(old: u32, count: u32) -> u32
 }
 
 // The dynamic type, or 0.
-fn dynamic_type(dynamic: &Dynamic) -> u32
-    ensures { result ≡ dynamic_type dynamic.now }
+fn dynamic_type(dynamic: Dynamic) -> u32
+    ensures { result ≡ dynamic_type dynamic }
 {
     match dynamic {
         Dynamic::Absent => 0,
-        Dynamic::Present(n) => *n,
+        Dynamic::Present(n) => n,
     }
 }
 
 // The flag that says that there is one.
-fn dynamic_bit(dynamic: &Dynamic) -> u32
-    ensures { (result ≡ dynamic_bit dynamic.now) × (result ≤ 4) }
+fn dynamic_bit(dynamic: Dynamic) -> u32
+    ensures { (result ≡ dynamic_bit dynamic) × (result ≤ 4) }
 {
     match dynamic {
         Dynamic::Absent => 0,
@@ -233,8 +233,8 @@ pub fn make_attrset(image: &mut [u32], fields: &[u32], is_open: bool, dynamic: D
     put_fields(image, fields, n);
     let count = n as u32;
     let first = first_field(old, count);
-    let typed = dynamic_type(&dynamic);
-    let flags = open_bit(is_open) + dynamic_bit(&dynamic);
+    let typed = dynamic_type(dynamic);
+    let flags = open_bit(is_open) + dynamic_bit(dynamic);
     writes::push_entry(image, image::format::ATTRSET, first, count, typed, flags, 1);
     Made::Number(number)
 }

@@ -11,11 +11,11 @@ field_word-requires-clause-i_in_bounds c = named_there _ _ _ _ c.requires.inside
 pub returns-in-At : goal.returns-in-At
 returns-in-At c =
     ap Under c.field_word.ensures
-    ∙ ask_found _ c.args.a.now c.requires.inside _
-    (named_by _ c.args.a.now c.field_word-name.ensures c.field_named-found.ensures c.in-At.is)
+    ∙ ask_found _ c.args.a c.requires.inside _
+    (named_by _ c.args.a c.field_word-name.ensures c.field_named-found.ensures c.in-At.is)
 
 pub returns-in-Nothing : goal.returns-in-Nothing
 returns-in-Nothing c =
     c.asks_dynamic.ensures
-    ∙ ask_nothing _ c.args.a.now c.requires.inside _
-    (named_by _ c.args.a.now c.field_word-name.ensures c.field_named-found.ensures c.in-Nothing.is)
+    ∙ ask_nothing _ c.args.a c.requires.inside _
+    (named_by _ c.args.a c.field_word-name.ensures c.field_named-found.ensures c.in-Nothing.is)
