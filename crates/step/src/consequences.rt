@@ -14,12 +14,12 @@ use constrain::{FieldAsk, Pairs};
 use model::{Attrset, Dynamic};
 
 // Puts what field record j asks of a on pending, if it asks for a pair.
-fn put_field_pair(image: &mut [u32], a: &Attrset, j: u32)
+fn put_field_pair(image: &mut [u32], a: Attrset, j: u32)
     requires midway { Midway image.old (table image.old) }
-    requires inside { Inside (fields_in image.old) a.now }
+    requires inside { Inside (fields_in image.old) a }
     requires j_in_bounds { j < length (fields_in image.old) }
-    requires j_len_bound { length (pending_in image.old) + length (field_pair (fields_in image.old) a.now j) ≤ (store_of image.old).capacities.pending }
-    ensures { Midway image.new (pending_to image.old (pending_in image.old ++ field_pair (fields_in image.old) a.now j)) }
+    requires j_len_bound { length (pending_in image.old) + length (field_pair (fields_in image.old) a j) ≤ (store_of image.old).capacities.pending }
+    ensures { Midway image.new (pending_to image.old (pending_in image.old ++ field_pair (fields_in image.old) a j)) }
 {
     let ask = constrain::asks(image, a, j);
     if let FieldAsk::Under(x) = ask {
@@ -29,14 +29,14 @@ fn put_field_pair(image: &mut [u32], a: &Attrset, j: u32)
 }
 
 // Puts the pair of the dynamic types on pending, if both have one.
-fn put_dynamic_pair(image: &mut [u32], a: &Dynamic, b: &Dynamic)
+fn put_dynamic_pair(image: &mut [u32], a: Dynamic, b: Dynamic)
     requires midway { Midway image.old (table image.old) }
-    requires b_len_bound { length (pending_in image.old) + length (dynamic_pairs a.now b.now) ≤ (store_of image.old).capacities.pending }
-    ensures { Midway image.new (pending_to image.old (pending_in image.old ++ dynamic_pairs a.now b.now)) }
+    requires b_len_bound { length (pending_in image.old) + length (dynamic_pairs a b) ≤ (store_of image.old).capacities.pending }
+    ensures { Midway image.new (pending_to image.old (pending_in image.old ++ dynamic_pairs a b)) }
 {
     if let Dynamic::Present(m) = a {
         if let Dynamic::Present(n) = b {
-            writes::put_consequence(image, *m, *n);
+            writes::put_consequence(image, m, n);
         }
     }
 }
@@ -49,23 +49,25 @@ fn put_field_pairs(image: &mut [u32], a: Attrset, b: Attrset)
     requires b_len_bound { length (pending_in image.old) + length (field_pairs (fields_in image.old) a b) ≤ (store_of image.old).capacities.pending }
     ensures { Midway image.new (pending_to image.old (pending_in image.old ++ reverse (field_pairs (fields_in image.old) a b))) }
 {
-    put_dynamic_pair(image, &a.dynamic, &b.dynamic);
+    let sub_dynamic = a.dynamic;
+    let sup_dynamic = b.dynamic;
+    put_dynamic_pair(image, sub_dynamic, sup_dynamic);
     let mut j = b.first + b.count;
     while b.first < j {
         j -= 1;
-        put_field_pair(image, &a, j);
+        put_field_pair(image, a, j);
     }
 }
 
 // How many consequences there are.
-pub fn count_of(pairs: &Pairs) -> u32
-    ensures { result ≡ count_in pairs.now }
+pub fn count_of(pairs: Pairs) -> u32
+    ensures { result ≡ count_in pairs }
 {
     match pairs {
         Pairs::Nothing => 0,
         Pairs::One(_, _) => 1,
         Pairs::Two(_, _, _, _) => 2,
-        Pairs::Fields(_, _, n) => *n,
+        Pairs::Fields(_, _, n) => n,
     }
 }
 

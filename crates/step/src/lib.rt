@@ -27,7 +27,7 @@ use model::{Failure, Refusal};
 use type_table::Negated;
 
 // What a step comes to.
-#[derive(Drop)]
+#[derive(Clone, Copy)]
 pub enum Step {
     Went,
     Failed(Failure),
@@ -35,7 +35,7 @@ pub enum Step {
 }
 
 // Whether a step has room.
-#[derive(Drop)]
+#[derive(Clone, Copy)]
 pub enum StepRoom {
     Enough,
     Lacks(Refusal),
@@ -125,7 +125,7 @@ fn follow(image: &mut [u32], sub: u32, sup: u32, pairs: Pairs) -> Step
     ensures value { result ≡ (taken image.old (goes (visit (sub ⊑ sup) (store_of image.old)) (pairs_in (fields_in image.old) pairs))).says }
     ensures image_after { image.new ≡ (taken image.old (goes (visit (sub ⊑ sup) (store_of image.old)) (pairs_in (fields_in image.old) pairs))).words }
 {
-    let room = room_for(image, consequences::count_of(&pairs));
+    let room = room_for(image, consequences::count_of(pairs));
     if let StepRoom::Lacks(r) = room {
         return Step::Refused(r);
     }
