@@ -1,0 +1,91 @@
+-- The loop of an instalment: proofs/Working.antt, turn by turn.
+use native.Mathlib.Omega.{arith}
+use borrow.Author.Rules.{rules}
+use mathlib.Core.Path.{refl, sym, ◌∙◌}
+use Rattle.image.proofs.Laying.{formed_laid}
+use Rattle.questions.proofs.Working.{running_start, running_yes, running_more, running_failed, running_refused, running_went, came}
+use Rattle.questions.proofs.instalment.Goals as goal
+
+pub loop-budget-init : goal.loop-budget-init
+loop-budget-init c = (running_start _ _ c.requires, refl)
+
+pub pending_count-requires : goal.pending_count-requires
+pending_count-requires c = formed_laid _ c.loop-budget.invariant.0.formed
+
+pub returns-then-steps-budget-clause-answer_value : goal.returns-then-steps-budget-clause-answer_value
+returns-then-steps-budget-clause-answer_value c =
+    let k = running_more _ _ _ _ c.loop-budget.invariant.0 (omega (arith, c.loop-budget-test.true, c.pending_count.ensures)) c.if-steps-budget.true in
+    k.says
+
+pub returns-then-steps-budget-clause-steps_value : goal.returns-then-steps-budget-clause-steps_value
+returns-then-steps-budget-clause-steps_value c =
+    let k = running_more _ _ _ _ c.loop-budget.invariant.0 (omega (arith, c.loop-budget-test.true, c.pending_count.ensures)) c.if-steps-budget.true in
+    k.steps
+
+pub returns-then-steps-budget-clause-image_after : goal.returns-then-steps-budget-clause-image_after
+returns-then-steps-budget-clause-image_after c =
+    let k = running_more _ _ _ _ c.loop-budget.invariant.0 (omega (arith, c.loop-budget-test.true, c.pending_count.ensures)) c.if-steps-budget.true in
+    k.leaves
+
+pub loop-budget-preserved : goal.loop-budget-preserved
+loop-budget-preserved c =
+    let e = sym c.in-Went.is ∙ c.take_step-step.ensures.value in
+    let k = came _ _ _ e c.take_step-step.ensures.image_after in
+    (running_went _ _ _ _ c.loop-budget.invariant.0 (omega (arith, c.loop-budget-test.true, c.pending_count.ensures)) (omega (arith, c.if-steps-budget.false, c.loop-budget.invariant.0.low)) _ k, search rules)
+
+pub returns-in-Failed-clause-answer_value : goal.returns-in-Failed-clause-answer_value
+returns-in-Failed-clause-answer_value c =
+    let e = sym c.in-Failed.is ∙ c.take_step-step.ensures.value in
+    let x = came _ _ _ e c.take_step-step.ensures.image_after in
+    let k = running_failed _ _ _ _ c.loop-budget.invariant.0 (omega (arith, c.loop-budget-test.true, c.pending_count.ensures)) (omega (arith, c.if-steps-budget.false, c.loop-budget.invariant.0.low)) _ _ x in
+    k.says
+
+pub returns-in-Failed-clause-steps_value : goal.returns-in-Failed-clause-steps_value
+returns-in-Failed-clause-steps_value c =
+    let e = sym c.in-Failed.is ∙ c.take_step-step.ensures.value in
+    let x = came _ _ _ e c.take_step-step.ensures.image_after in
+    let k = running_failed _ _ _ _ c.loop-budget.invariant.0 (omega (arith, c.loop-budget-test.true, c.pending_count.ensures)) (omega (arith, c.if-steps-budget.false, c.loop-budget.invariant.0.low)) _ _ x in
+    k.steps
+
+pub returns-in-Failed-clause-image_after : goal.returns-in-Failed-clause-image_after
+returns-in-Failed-clause-image_after c =
+    let e = sym c.in-Failed.is ∙ c.take_step-step.ensures.value in
+    let x = came _ _ _ e c.take_step-step.ensures.image_after in
+    let k = running_failed _ _ _ _ c.loop-budget.invariant.0 (omega (arith, c.loop-budget-test.true, c.pending_count.ensures)) (omega (arith, c.if-steps-budget.false, c.loop-budget.invariant.0.low)) _ _ x in
+    k.leaves
+
+pub returns-in-Refused-clause-answer_value : goal.returns-in-Refused-clause-answer_value
+returns-in-Refused-clause-answer_value c =
+    let e = sym c.in-Refused.is ∙ c.take_step-step.ensures.value in
+    let x = came _ _ _ e c.take_step-step.ensures.image_after in
+    let k = running_refused _ _ _ _ c.loop-budget.invariant.0 (omega (arith, c.loop-budget-test.true, c.pending_count.ensures)) (omega (arith, c.if-steps-budget.false, c.loop-budget.invariant.0.low)) _ _ x in
+    k.says
+
+pub returns-in-Refused-clause-steps_value : goal.returns-in-Refused-clause-steps_value
+returns-in-Refused-clause-steps_value c =
+    let e = sym c.in-Refused.is ∙ c.take_step-step.ensures.value in
+    let x = came _ _ _ e c.take_step-step.ensures.image_after in
+    let k = running_refused _ _ _ _ c.loop-budget.invariant.0 (omega (arith, c.loop-budget-test.true, c.pending_count.ensures)) (omega (arith, c.if-steps-budget.false, c.loop-budget.invariant.0.low)) _ _ x in
+    k.steps
+
+pub returns-in-Refused-clause-image_after : goal.returns-in-Refused-clause-image_after
+returns-in-Refused-clause-image_after c =
+    let e = sym c.in-Refused.is ∙ c.take_step-step.ensures.value in
+    let x = came _ _ _ e c.take_step-step.ensures.image_after in
+    let k = running_refused _ _ _ _ c.loop-budget.invariant.0 (omega (arith, c.loop-budget-test.true, c.pending_count.ensures)) (omega (arith, c.if-steps-budget.false, c.loop-budget.invariant.0.low)) _ _ x in
+    k.leaves
+
+pub returns-clause-answer_value : goal.returns-clause-answer_value
+returns-clause-answer_value c =
+    let k = running_yes _ _ _ _ c.loop-budget.invariant.0 (omega (arith, c.loop-budget-test.false, c.pending_count.ensures)) in
+    k.says
+
+pub returns-clause-steps_value : goal.returns-clause-steps_value
+returns-clause-steps_value c =
+    let k = running_yes _ _ _ _ c.loop-budget.invariant.0 (omega (arith, c.loop-budget-test.false, c.pending_count.ensures)) in
+    k.steps
+
+pub returns-clause-image_after : goal.returns-clause-image_after
+returns-clause-image_after c =
+    let k = running_yes _ _ _ _ c.loop-budget.invariant.0 (omega (arith, c.loop-budget-test.false, c.pending_count.ensures)) in
+    k.leaves
