@@ -5,7 +5,7 @@
 use Prim.Native.Nat.{ℕ}
 use mathlib.Core.Path.{refl}
 use mathlib.Core.List.{List}
-use denote.Ref.{Bor}
+use denote.MutBor.{MutBor}
 use Rattle.model.specs.Calls.{Call, makes_variable, makes_primitive, makes_list, makes_lambda, makes_attrset, makes_named, makes_neg, makes_inter, makes_union, marks, puts_bound, enters, exits, sets_level, under, both_ways, opens, works, abandons}
 use Rattle.model.specs.Told.{Told, told_made, told_reply, told_answer, told_opening, steps_of}
 use Rattle.model.specs.declared.Instalment.{Instalment}
@@ -35,9 +35,9 @@ use Rattle.sheafwinch.proofs.open_equal.Reads as open-equal
 use Rattle.sheafwinch.proofs.abandon.Reads as abandon
 
 -- a contract under which every outcome meets the call with these arguments
-abbrev pub Met : {K R : Type 0} {A X : K → Type 0} → (R → Told) → ((κs : K) → A κs → Call) → ((κs : K) → Bor (List ℕ) × A κs → R → Bor (List ℕ) × X κs → Type 0) → Type 0
+abbrev pub Met : {K R : Type 0} {A X : K → Type 0} → (R → Told) → ((κs : K) → A κs → Call) → ((κs : K) → MutBor (List ℕ) × A κs → R → MutBor (List ℕ) × X κs → Type 0) → Type 0
 Met {K} {R} {A} {X} told call post =
-    (κs : K) (a : Bor (List ℕ) × A κs) (x : R) (e : Bor (List ℕ) × X κs) → post κs a x e → Meets (call κs a.1) a.0.now (told x) 0 e.0.now
+    (κs : K) (a : MutBor (List ℕ) × A κs) (x : R) (e : MutBor (List ℕ) × X κs) → post κs a x e → Meets (call κs a.1) a.0.now (told x) 0 e.0.now
 
 pub start_met : (κs : _) (a : _) (x : Reply) (e : _) → start.Post κs a x e
     → MeetsStart a.1.0 a.1.1.0 (capacities_of a.1.1.1.0) a.0.now (told_reply x) e.0.now

@@ -3,7 +3,7 @@
 use Prim.Native.Nat.{ℕ}
 use mathlib.Core.Path.{◌≡◌, sym, ap, ◌∙◌}
 use mathlib.Core.List.{List}
-use denote.Ref.{Bor}
+use denote.MutBor.{MutBor}
 use Rattle.model.proofs.OneToOne.{reply_one_to_one, made_one_to_one, answer_one_to_one, opening_one_to_one, entry_read_one_to_one, record_one_to_one, disjointness_one_to_one}
 use Rattle.model.specs.declared.Answer.{Answer}
 use Rattle.model.specs.declared.Instalment.{Instalment}
@@ -35,9 +35,9 @@ abbrev pub Settles : {K : Type 0} {A R E : K → Type 0} → ((κs : K) → A κ
 Settles {K} {A} {R} {E} post = (κs : K) (a : A κs) (x y : R κs) (e f : E κs) → post κs a x e → post κs a y f → x ≡ y
 
 -- of a call that may change the image: `e.0.now` is the image at exit
-abbrev pub SettlesAll : {K : Type 0} {A R X : K → Type 0} → ((κs : K) → A κs → R κs → Bor (List ℕ) × X κs → Type 0) → Type 0
+abbrev pub SettlesAll : {K : Type 0} {A R X : K → Type 0} → ((κs : K) → A κs → R κs → MutBor (List ℕ) × X κs → Type 0) → Type 0
 SettlesAll {K} {A} {R} {X} post =
-    (κs : K) (a : A κs) (x y : R κs) (e f : Bor (List ℕ) × X κs) → post κs a x e → post κs a y f → (x ≡ y) × (e.0.now ≡ f.0.now)
+    (κs : K) (a : A κs) (x y : R κs) (e f : MutBor (List ℕ) × X κs) → post κs a x e → post κs a y f → (x ≡ y) × (e.0.now ≡ f.0.now)
 
 pub start_settled : SettlesAll start.Post
 start_settled κs a x y e f p q = (reply_one_to_one x y (p.0 ∙ sym q.0), p.1 ∙ sym q.1)

@@ -1,0 +1,29 @@
+-- `make_attrset`: makes an attrset with the fields of a list, triples of a name, an entry and optional.
+use Rattle.model.specs.Calls.{turn_of, makes_attrset}
+use Rattle.turns.proofs.Turning.{denied_as, as_same, unfit, good_image, good}
+use Rattle.sheafwinch.proofs.make_attrset.Goals as goal
+
+pub attrset_in-requires : goal.attrset_in-requires
+attrset_in-requires c = good_image _ c.admit.ensures c.in-Good.is
+
+pub returns-in-Unfit-clause-result_value : goal.returns-in-Unfit-clause-result_value
+returns-in-Unfit-clause-result_value c =
+    let k = as_same (unfit c.args.image.now c.admit.ensures (makes_attrset c.args.fields.now c.args.is_open c.args.dynamic) c.in-Unfit.is) (denied_as c.args.image.now _) in
+    k.says
+
+pub returns-in-Unfit-clause-image_after : goal.returns-in-Unfit-clause-image_after
+returns-in-Unfit-clause-image_after c =
+    let k = as_same (unfit c.args.image.now c.admit.ensures (makes_attrset c.args.fields.now c.args.is_open c.args.dynamic) c.in-Unfit.is) (denied_as c.args.image.now _) in
+    k.leaves
+
+pub returns-in-Good-clause-result_value : goal.returns-in-Good-clause-result_value
+unfolding turn_of
+returns-in-Good-clause-result_value c =
+    let k = as_same (good c.args.image.now c.admit.ensures (makes_attrset c.args.fields.now c.args.is_open c.args.dynamic) c.in-Good.is) (record { says = c.attrset_in.ensures.result_value; leaves = c.attrset_in.ensures.image_after }) in
+    k.says
+
+pub returns-in-Good-clause-image_after : goal.returns-in-Good-clause-image_after
+unfolding turn_of
+returns-in-Good-clause-image_after c =
+    let k = as_same (good c.args.image.now c.admit.ensures (makes_attrset c.args.fields.now c.args.is_open c.args.dynamic) c.in-Good.is) (record { says = c.attrset_in.ensures.result_value; leaves = c.attrset_in.ensures.image_after }) in
+    k.leaves
