@@ -4,11 +4,11 @@
 use Prim.Native.Nat.{ℕ, ◌+◌}
 use native.Mathlib.Omega.{arith}
 use mathlib.Core.Path.{◌≡◌, refl, sym, ap, ◌∙◌, subst}
-use mathlib.Core.List.{List, [], ◌∷◌}
+use mathlib.Core.List.{List, ◌∷◌}
 use mathlib.Core.Option.{none, some}
 use mathlib.Core.Bool.{true, false, not}
 use lib.Dec.{T}
-use denote.Ref.{Bor}
+use denote.MutBor.{MutBor}
 use Rattle.model.specs.Table.{is_asked}
 use Rattle.model.specs.Image.{table}
 use Rattle.model.specs.Rules.{break_of}
@@ -65,9 +65,9 @@ met_by {v} {w} {x} c k s e f =
     }
 
 -- a contract under which every outcome meets the call with these arguments
-abbrev pub Met : {K : Type 0} {A X : K → Type 0} → ((κs : K) → A κs → Call) → ((κs : K) → Bor (List ℕ) × A κs → Answer → Bor (List ℕ) × X κs → Type 0) → Type 0
+abbrev pub Met : {K : Type 0} {A X : K → Type 0} → ((κs : K) → A κs → Call) → ((κs : K) → MutBor (List ℕ) × A κs → Answer → MutBor (List ℕ) × X κs → Type 0) → Type 0
 Met {K} {A} {X} call post =
-    (κs : K) (a : Bor (List ℕ) × A κs) (x : Answer) (e : Bor (List ℕ) × X κs) → post κs a x e → CallMet (call κs a.1) a.0.now x e.0.now
+    (κs : K) (a : MutBor (List ℕ) × A κs) (x : Answer) (e : MutBor (List ℕ) × X κs) → post κs a x e → CallMet (call κs a.1) a.0.now x e.0.now
 
 met : {v w : List ℕ} {x : Answer} (c : Call) → takes_steps c ≡ false → x ≡ answer_of 0 (perform c v).says → w ≡ (perform c v).words → CallMet c v x w
 met {v} c n e f = met_by c 0 (sym (no_steps c n v)) e f

@@ -4,7 +4,7 @@ use Prim.Native.Nat.{ℕ, ◌≤◌}
 use native.Mathlib.Omega.{arith}
 use mathlib.Core.Path.{◌≡◌, refl, sym, ap, ◌∙◌}
 use mathlib.Core.List.{List, [], ◌∷◌}
-use mathlib.Core.Bool.{Bool, cond, ◌&&◌}
+use mathlib.Core.Bool.{Bool, cond}
 use lib.ListN.{length, take}
 use lib.Dec.{eqb}
 use Rattle.model.specs.Told.{Told, done, yes, more, failed, refused, unopened, carried, carried_values, told_refusal, told_unopened, told_failure, told_reply, told_made, told_answer, told_opening, told_attrset, told_entry, told_entry_read, told_record, told_disjointness}

@@ -1,6 +1,6 @@
 -- What a C caller gets: each answer as the words of one struct; and what the words mean that C gives for a flag and a dynamic type.
 -- proofs/OneToOne.antt shows that answers that differ have words that differ. Assumes nothing.
-use Rattle.std.specs.Prelude.{ℕ, List, [], ◌∷◌, Bool, not, cond, length, get_or}
+use Rattle.std.specs.Prelude.{ℕ, List, [], Bool, not, cond, length, get_or}
 use Rattle.model.specs.Lists.{is_zero}
 use Rattle.model.specs.Told.{Told, done, yes, more, failed, refused, unopened}
 use Rattle.model.specs.Table as T
