@@ -3,23 +3,26 @@ ghost use Rattle.std.specs.Prelude.{◌≡◌, length};
 
 use crate::left::count;
 use printing::{print, print_one, print_two};
+use std::io;
+use std::io::Write;
 
 // The variable, by its number.
 const VARIABLE: u32 = 0;
 
 // How many bounds there are with bounds 1 to 32, and after each further one.
-pub fn print_counts() {
+pub fn print_counts<W: Write>(out: &mut W) -> io::Result<()> {
     let mut words = room();
     make_entries(&mut words);
     put_bounds(&mut words);
     print_one(
+        out,
         b"Lower bounds 1 to 32 put: % bounds",
         count(&words, image::format::BOUNDS),
-    );
-    print_put(&mut words, 5);
-    print_put(&mut words, 33);
-    print_put(&mut words, 5);
-    print(b"\n");
+    )?;
+    print_put(out, &mut words, 5)?;
+    print_put(out, &mut words, 33)?;
+    print_put(out, &mut words, 5)?;
+    print(out, b"\n")
 }
 
 // The words of the image, before it is started.
@@ -45,24 +48,25 @@ fn capacities() -> image::Capacities {
 fn make_entries(words: &mut [u32]) {
     sheafwinch::start(words, 3, 1, capacities());
     sheafwinch::make_variable(words);
-    let mut left: u32 = 33;
-    while left > 0 {
+    for _ in 0..33 {
         sheafwinch::make_primitive(words, 0);
-        left -= 1;
     }
 }
 
 // Puts the lower bounds 1 to 32.
 fn put_bounds(words: &mut [u32]) {
-    let mut bound: u32 = 1;
-    while bound <= 32 {
+    for bound in 1..=32 {
         sheafwinch::put_bound(words, VARIABLE, image::format::LOWER, bound);
-        bound += 1;
     }
 }
 
 // Puts a lower bound, and tells how many there are then.
-fn print_put(words: &mut [u32], bound: u32) {
+fn print_put<W: Write>(out: &mut W, words: &mut [u32], bound: u32) -> io::Result<()> {
     sheafwinch::put_bound(words, VARIABLE, image::format::LOWER, bound);
-    print_two(b"; then %: %", bound, count(words, image::format::BOUNDS));
+    print_two(
+        out,
+        b"; then %: %",
+        bound,
+        count(words, image::format::BOUNDS),
+    )
 }
