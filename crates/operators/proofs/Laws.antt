@@ -4,8 +4,8 @@ use native.Mathlib.Omega.{arith}
 use mathlib.Core.Path.{◌≡◌, refl, ap}
 use mathlib.Core.Bool.{Bool, true, false, cond, ◌&&◌, ◌||◌}
 use lib.Dec.{eqb}
-use borrow.Author.Tests.{eqb-true, eqb-false, eq-eqb, ne_eqb}
-use Rattle.operators.specs.Operators.{add, is_numeric, numeric_result, is_text, result_of}
+use borrow.Author.Tests.{eqb-true, eqb-false, eq-eqb, ne_eqb, le-leb}
+use Rattle.operators.specs.Operators.{add, is_numeric, numeric_result, is_text, result_of, bound_at_once, at_once}
 use Rattle.operators.specs.NumericOnly.{Not, Numeric, NotNumeric, Wins, NumericOnly}
 use Rattle.operators.specs.declared.Resolved.{Resolved}
 use Rattle.operators.specs.declared.Resolved.TheVariants as R
@@ -66,3 +66,8 @@ module _ (p : ℕ) (low : 4 ≤ p) (high : p ≤ 5) where
 pub not_text : (p : ℕ) → Not p 4 → Not p 5 → is_text p ≡ false
 unfolding is_text
 not_text p f g = simp (ne_eqb p 4 f, ne_eqb p 5 g)
+
+-- Sub, Mul and Div have Number at once
+pub number_at_once : (op : ℕ) → 1 ≤ op → op ≤ 3 → R.Primitive 7 ≡ at_once op
+unfolding at_once bound_at_once
+number_at_once op low high = rw (le-leb op 3 high, ne_eqb op 0 (λ e. omega arith))

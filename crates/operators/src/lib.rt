@@ -119,6 +119,7 @@ pub fn from_left(op: u32, left: u32) -> Resolved
 }
 
 // The primitive that bounds an operator's operands and result at once.
+#[tactic(auto, using(crate::proofs::Laws::number_at_once))]
 pub fn at_once(op: u32) -> Resolved
     ensures { result ≡ at_once op }
 {

@@ -8,12 +8,6 @@ pub returns-in-0 : goal.returns-in-0
 unfolding at_once bound_at_once
 returns-in-0 c = rw c.in-0.is
 
-pub returns-in-1-to-3 : goal.returns-in-1-to-3
-unfolding at_once bound_at_once
-returns-in-1-to-3 c =
-    let op = c.args.op in
-    rw (le-leb op 3 (omega arith), ne_eqb op 0 (omega arith))
-
 pub returns-in_default : goal.returns-in_default
 unfolding at_once
 returns-in_default c = rw (lt-leb c.args.op 3 (omega arith))
