@@ -49,6 +49,19 @@ pub shut_lacks : (fs : List Field) (a b : Attrset) → a.is_open ≡ false → l
 unfolding closed_lacks_in
 shut_lacks fs a b q = ap (λ (o : Bool). not o && lacks_some fs a b) (sym q)
 
+-- a told answer, closed
+pub shut_so : (fs : List Field) (a b : Attrset) (r : Bool) → a.is_open ≡ false → r ≡ lacks_some fs a b → r ≡ closed_lacks_in fs a b
+shut_so fs a b r q e = e ∙ shut_lacks fs a b q
+
+-- an optional flag that was read: the field is not lacking
+pub optional_so : (fs : List Field) (a : Attrset) (f : Field) (o : ℕ) → Inside fs a → o ≡ f.optional → (o ≡ 0 → ⊥) → false ≡ lacks_field (fields_held fs a) f
+optional_so fs a f o h e n = optional fs a h f (λ q. n (e ∙ q))
+
+-- or it is, as the search by its name tells
+pub required_so : (fs : List Field) (a : Attrset) (f : Field) (o n : ℕ) (r : Bool) (k : FieldFound) → Inside fs a → o ≡ f.optional → o ≡ 0
+    → n ≡ f.name → k ≡ number_named fs a.first a.count n → r ≡ is_found k → not r ≡ lacks_field (fields_held fs a) f
+required_so fs a f o n r k h e z en ek er = rw (er, ek, en) (required fs a h f (sym e ∙ z))
+
 -- the functor's record, of an entry that reads out so
 abbrev pub functor_by : Graph → EntryOut → FieldFound
 functor_by g (E.Variable l) = Nothing

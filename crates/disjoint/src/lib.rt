@@ -108,6 +108,7 @@ fn is_callable(image: &[u32], a: Attrset) -> bool
 }
 
 // Whether field record j is not optional, and no field of a has its name.
+#[tactic(auto, using(crate::proofs::Shapes::optional_so, crate::proofs::Shapes::required_so))]
 fn lacks_field(image: &[u32], a: Attrset, j: u32) -> bool
     requires laid { Laid image.now }
     requires inside { Inside (fields_in image.now) a }
@@ -140,6 +141,7 @@ fn lacks_some(image: &[u32], a: Attrset, b: Attrset) -> bool
 }
 
 // Whether a is closed, and lacks a field that b requires.
+#[tactic(auto, using(crate::proofs::Shapes::open_lacks, crate::proofs::Shapes::shut_so))]
 fn closed_lacks(image: &[u32], a: Attrset, b: Attrset) -> bool
     requires laid { Laid image.now }
     requires inside { Inside (fields_in image.now) a }
