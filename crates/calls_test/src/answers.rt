@@ -4,9 +4,11 @@
 // question; one that leaves every word is told as `SAME`.
 use model::{Answer, Carried, Instalment, Made, Opening, Refusal, Reply};
 use printing::{print, print_one, print_word};
+use std::io;
+use std::io::Write;
 
 // What a make or another call answers.
-#[derive(Drop)]
+#[derive(Clone, Copy)]
 pub enum Told {
     Number(u32),
     Done,
@@ -68,46 +70,53 @@ fn of_first(first: Instalment) -> Told {
 }
 
 // The answer, and whether the words were kept where it is a refusal.
-pub fn print_told(told: Told, is_same: bool) {
+pub fn print_told<W: Write>(out: &mut W, told: Told, is_same: bool) -> io::Result<()> {
     match told {
-        Told::Number(n) => print_one(b" %", n),
-        Told::Done => print_plain(0),
-        Told::Yes => print_plain(1),
-        Told::More => print_plain(2),
-        Told::Failed => print_plain(3),
-        Told::Refused(r) => print_refused(b" r%", r, is_same),
-        Told::Unopened(r) => print_refused(b" u%", r, is_same),
-        Told::Stopped { refusal, steps } => print_stopped(refusal, steps, is_same),
+        Told::Number(n) => print_one(out, b" %", n),
+        Told::Done => print_plain(out, 0),
+        Told::Yes => print_plain(out, 1),
+        Told::More => print_plain(out, 2),
+        Told::Failed => print_plain(out, 3),
+        Told::Refused(r) => print_refused(out, b" r%", r, is_same),
+        Told::Unopened(r) => print_refused(out, b" u%", r, is_same),
+        Told::Stopped { refusal, steps } => print_stopped(out, refusal, steps, is_same),
     }
 }
 
 // An answer that is a word.
-fn print_plain(n: u32) {
-    print_word(b" ok| yes| MORE| FAILED", n);
+fn print_plain<W: Write>(out: &mut W, n: u32) -> io::Result<()> {
+    print_word(out, b" ok| yes| MORE| FAILED", n)
 }
 
 // A refusal, and that a word changed where one did.
-fn print_refused(pattern: &[u8], r: Refusal, is_same: bool) {
-    print_refusal(pattern, r);
+fn print_refused<W: Write>(
+    out: &mut W,
+    pattern: &[u8],
+    r: Refusal,
+    is_same: bool,
+) -> io::Result<()> {
+    print_refusal(out, pattern, r)?;
     if !is_same {
-        print(b" CHANGED");
+        print(out, b" CHANGED")?;
     }
+    Ok(())
 }
 
 // A refusal of an opening's step, the steps that are kept, and that no word changed where none did.
-fn print_stopped(r: Refusal, steps: u32, is_same: bool) {
-    print_refusal(b" r%", r);
-    print_one(b"+%", steps);
+fn print_stopped<W: Write>(out: &mut W, r: Refusal, steps: u32, is_same: bool) -> io::Result<()> {
+    print_refusal(out, b" r%", r)?;
+    print_one(out, b"+%", steps)?;
     if is_same {
-        print(b" SAME");
+        print(out, b" SAME")?;
     }
+    Ok(())
 }
 
 // A refusal, as 01 numbers it, in a pattern, and the region that is full.
-fn print_refusal(pattern: &[u8], r: Refusal) {
-    print_one(pattern, refusals::number(r));
+fn print_refusal<W: Write>(out: &mut W, pattern: &[u8], r: Refusal) -> io::Result<()> {
+    print_one(out, pattern, refusals::number(r))?;
     match refusals::carried(r) {
-        Carried::Region(region) => print_one(b"(%)", region),
-        _ => {}
+        Carried::Region(region) => print_one(out, b"(%)", region),
+        _ => Ok(()),
     }
 }

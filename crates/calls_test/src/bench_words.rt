@@ -2,30 +2,31 @@
 // proofs/Words.antt says that the model makes the same words.
 use bench_table::{make_table, room};
 use printing::{print, print_one};
+use std::io;
+use std::io::Write;
 
 // The table's words, 16 to a line.
-pub fn print_table() {
-    print(b"The bench table's words:");
+pub fn print_table<W: Write>(out: &mut W) -> io::Result<()> {
+    print(out, b"The bench table's words:")?;
     let mut words = room();
     make_table(&mut words);
-    print_words(&words);
-    print(b"\n");
+    print_words(out, &words)?;
+    print(out, b"\n")
 }
 
 // All words in order.
-fn print_words(words: &[u32]) {
-    let mut at = 0;
-    while at < words.len() {
-        print_word(at, words[at]);
-        at += 1;
+fn print_words<W: Write>(out: &mut W, words: &[u32]) -> io::Result<()> {
+    for at in 0..words.len() {
+        print_word(out, at, words[at])?;
     }
+    Ok(())
 }
 
 // A word: a line's first begins it.
-fn print_word(at: usize, n: u32) {
+fn print_word<W: Write>(out: &mut W, at: usize, n: u32) -> io::Result<()> {
     if at % 16 == 0 {
-        print_one(b"\n%", n);
+        print_one(out, b"\n%", n)
     } else {
-        print_one(b" %", n);
+        print_one(out, b" %", n)
     }
 }

@@ -11,22 +11,18 @@ pub fn copied(words: &[u32]) -> [u32; 283]
     ensures { 283 ≡ length result }
 {
     let mut copy = [0u32; 283];
-    let mut at: usize = 0;
-    while at < MOST_WORDS {
+    for at in 0..MOST_WORDS {
         copy[at] = word(words, at);
-        at += 1;
     }
     copy
 }
 
 // Whether the words are those that were copied.
 pub fn same(copy: &[u32; 283], words: &[u32]) -> bool {
-    let mut at: usize = 0;
-    while at < MOST_WORDS {
+    for at in 0..MOST_WORDS {
         if copy[at] != word(words, at) {
             return false;
         }
-        at += 1;
     }
     true
 }

@@ -5,6 +5,8 @@ ghost use Rattle.std.specs.Prelude.{◌≡◌, length};
 use crate::script;
 use image::Capacities;
 use printing::{print, print_one};
+use std::io;
+use std::io::Write;
 use table_words::size_of;
 
 // The calls after the unions, from the first to before the end.
@@ -16,21 +18,24 @@ const END: u32 = 19;
 const UNIONS: u32 = 9;
 
 // A line for each capacity where an answer turns. A union needs 1 entry; the negation needs 10, for the unions and the variable.
-pub fn print_lines() {
-    print(b"Entries, 10 of them to spread 1023: what each call answers\n");
-    print_line(10);
-    print_line(11);
-    print_line(12);
-    print_line(19);
-    print_line(20);
+pub fn print_lines<W: Write>(out: &mut W) -> io::Result<()> {
+    print(
+        out,
+        b"Entries, 10 of them to spread 1023: what each call answers\n",
+    )?;
+    print_line(out, 10)?;
+    print_line(out, 11)?;
+    print_line(out, 12)?;
+    print_line(out, 19)?;
+    print_line(out, 20)
 }
 
 // The capacity, and the answers on an image with so many entries and nothing else.
-fn print_line(entries: u32) {
-    print_one(b"%:", entries);
+fn print_line<W: Write>(out: &mut W, entries: u32) -> io::Result<()> {
+    print_one(out, b"%:", entries)?;
     let mut words = room();
-    fill(&mut words, capacities(entries));
-    print(b"\n");
+    fill(out, &mut words, entries)?;
+    print(out, b"\n")
 }
 
 // Words for the largest image.
@@ -53,23 +58,21 @@ fn capacities(n: u32) -> Capacities {
 }
 
 // Starts the image in as many words as it takes, makes the unions, and then the calls.
-fn fill(words: &mut [u32], c: Capacities) {
-    let size = size_of(c);
+fn fill<W: Write>(out: &mut W, words: &mut [u32], entries: u32) -> io::Result<()> {
+    let size = size_of(capacities(entries));
     if words.len() < size {
-        return;
+        return Ok(());
     }
     let image = &mut words[0..size];
-    sheafwinch::start(image, 0, 0, c);
+    sheafwinch::start(image, 0, 0, capacities(entries));
     make_unions(image);
-    script::run(image, FIRST, END);
+    script::run(out, image, FIRST, END)
 }
 
 // A variable, and the unions.
 fn make_unions(words: &mut [u32]) {
     sheafwinch::make_variable(words);
-    let mut n: u32 = 0;
-    while n < UNIONS {
+    for n in 0..UNIONS {
         sheafwinch::make_union(words, n, n);
-        n += 1;
     }
 }

@@ -6,6 +6,8 @@ ghost use Rattle.std.specs.Prelude.{◌≡◌, length};
 use crate::script;
 use image::Capacities;
 use printing::{print, print_four};
+use std::io;
+use std::io::Write;
 use table_words::size_of;
 
 // The script's calls from the first on, those whose openings work, and the end.
@@ -16,52 +18,59 @@ const WORKED: u32 = 31;
 const END: u32 = 37;
 
 // A line for the capacities of bounds, visited, pending and equals: the answers of the script's calls.
-pub fn print_lines() {
+pub fn print_lines<W: Write>(out: &mut W) -> io::Result<()> {
     print(
+        out,
         b"Bounds, visited, pending, equals: what open equal by 0 steps, work by 1 step four times, abandon answer, the same of open;
 afresh, what open equal by 3 steps, work by 1 step, abandon answer, the same of open;
 uN where an opening is refused N, rN+S where a step of its first instalment is, after S steps\n",
-    );
-    each_bounds();
-    each_visited();
-    each_pending();
-    print_line(2, 4, 2, 0);
-    print_line(2, 4, 2, 1);
-    several();
+    )?;
+    each_bounds(out)?;
+    each_visited(out)?;
+    each_pending(out)?;
+    print_line(out, 2, 4, 2, 0)?;
+    print_line(out, 2, 4, 2, 1)?;
+    several(out)
 }
 
 // Bounds, which the questions need 2 of.
-fn each_bounds() {
-    print_line(0, 4, 2, 1);
-    print_line(1, 4, 2, 1);
+fn each_bounds<W: Write>(out: &mut W) -> io::Result<()> {
+    print_line(out, 0, 4, 2, 1)?;
+    print_line(out, 1, 4, 2, 1)
 }
 
 // Visited pairs, which they need 4 of.
-fn each_visited() {
-    print_line(2, 0, 2, 1);
-    print_line(2, 1, 2, 1);
-    print_line(2, 2, 2, 1);
-    print_line(2, 3, 2, 1);
+fn each_visited<W: Write>(out: &mut W) -> io::Result<()> {
+    print_line(out, 2, 0, 2, 1)?;
+    print_line(out, 2, 1, 2, 1)?;
+    print_line(out, 2, 2, 2, 1)?;
+    print_line(out, 2, 3, 2, 1)
 }
 
 // Pending pairs, which they need 2 of.
-fn each_pending() {
-    print_line(2, 4, 0, 1);
-    print_line(2, 4, 1, 1);
+fn each_pending<W: Write>(out: &mut W) -> io::Result<()> {
+    print_line(out, 2, 4, 0, 1)?;
+    print_line(out, 2, 4, 1, 1)
 }
 
 // More than one: told of the first region, in order.
-fn several() {
-    print_line(0, 0, 2, 1);
-    print_line(2, 0, 1, 0);
+fn several<W: Write>(out: &mut W) -> io::Result<()> {
+    print_line(out, 0, 0, 2, 1)?;
+    print_line(out, 2, 0, 1, 0)
 }
 
 // The capacities, and the answers on an image with these.
-fn print_line(bounds: u32, visited: u32, pending: u32, equals: u32) {
-    print_four(b"% % % %:", bounds, visited, pending, equals);
+fn print_line<W: Write>(
+    out: &mut W,
+    bounds: u32,
+    visited: u32,
+    pending: u32,
+    equals: u32,
+) -> io::Result<()> {
+    print_four(out, b"% % % %:", bounds, visited, pending, equals)?;
     let mut words = room();
-    fill(&mut words, capacities(bounds, visited, pending, equals));
-    print(b"\n");
+    fill(out, &mut words, bounds, visited, pending, equals)?;
+    print(out, b"\n")
 }
 
 // Words for the largest image.
@@ -84,17 +93,24 @@ fn capacities(bounds: u32, visited: u32, pending: u32, equals: u32) -> Capacitie
 }
 
 // Runs the script in as many words as the image takes, started afresh where the openings work.
-fn fill(words: &mut [u32], c: Capacities) {
-    let size = size_of(c);
+fn fill<W: Write>(
+    out: &mut W,
+    words: &mut [u32],
+    bounds: u32,
+    visited: u32,
+    pending: u32,
+    equals: u32,
+) -> io::Result<()> {
+    let size = size_of(capacities(bounds, visited, pending, equals));
     if words.len() < size {
-        return;
+        return Ok(());
     }
     let image = &mut words[0..size];
-    start_afresh(image, c);
-    script::run(image, FIRST, WORKED);
-    print(b";");
-    start_afresh(image, c);
-    script::run(image, WORKED, END);
+    start_afresh(image, capacities(bounds, visited, pending, equals));
+    script::run(out, image, FIRST, WORKED)?;
+    print(out, b";")?;
+    start_afresh(image, capacities(bounds, visited, pending, equals));
+    script::run(out, image, WORKED, END)
 }
 
 // Starts the image, and makes its entries.

@@ -13,18 +13,20 @@ mod full_regions;
 mod random_words;
 mod script;
 
-use libc::STDOUT_FILENO;
+use std::io;
+use std::io::Write;
 
-fn main() {
-    bench_words::print_table();
-    full_regions::print_lines();
-    full_questions::print_lines();
-    depth::print_lines();
-    random_words::print_counts();
-    changed_words::print_refused();
+fn main(rt: HostRuntime) -> io::Result<()> {
+    let mut out = rt.stdout();
+    bench_words::print_table(&mut out)?;
+    full_regions::print_lines(&mut out)?;
+    full_questions::print_lines(&mut out)?;
+    depth::print_lines(&mut out)?;
+    random_words::print_counts(&mut out)?;
+    changed_words::print_refused(&mut out)
 }
 
 // A place or a size in decimal.
-fn print_size(n: usize) {
-    io::print_decimal(STDOUT_FILENO, n as u64);
+fn print_size<W: Write>(out: &mut W, n: usize) -> io::Result<()> {
+    write!(out, "{n}")
 }

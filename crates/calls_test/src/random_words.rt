@@ -3,21 +3,24 @@ ghost use Rattle.std.specs.Prelude.{◌≡◌, ◌≤◌, length};
 
 use model::{EntryRead, Refusal};
 use printing::print_two;
+use std::io;
+use std::io::Write;
 
 // How many words there are at most.
 const MOST_WORDS: usize = 200;
 
 // How many lengths are refused, of words at random and of these with the format word right.
-pub fn print_counts() {
+pub fn print_counts<W: Write>(out: &mut W) -> io::Result<()> {
     let mut words = random();
     let without = count_refused(&words, MOST_WORDS);
     words[image::format::FORMAT_AT] = image::format::FORMAT;
     let with = count_refused(&words, MOST_WORDS);
     print_two(
+        out,
         b"Lengths from 0 to 200 of words at random that are refused 1: %, and with word 0 right: %\n",
         without,
         with,
-    );
+    )
 }
 
 // Words at random.
@@ -26,11 +29,9 @@ fn random() -> [u32; 200]
 {
     let mut words = [0u32; 200];
     let mut x: u32 = 1;
-    let mut at: usize = 0;
-    while at < MOST_WORDS {
+    for at in 0..MOST_WORDS {
         x = next(x);
         words[at] = x;
-        at += 1;
     }
     words
 }
@@ -52,10 +53,8 @@ pub fn count_refused(words: &[u32], most: usize) -> u32
     requires { most ≤ 1000 }
 {
     let mut refused: u32 = 0;
-    let mut n: usize = 0;
-    while n <= most {
+    for n in 0..=most {
         refused += refused_at(words, n);
-        n += 1;
     }
     refused
 }

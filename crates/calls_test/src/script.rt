@@ -4,6 +4,8 @@ ghost use Rattle.std.specs.Prelude.{◌≤◌};
 use crate::answers::{Told, of_instalment, of_made, of_opening, of_reply, print_told};
 use crate::copies::{copied, same};
 use model::{Dynamic, Made, Opening, Reply};
+use std::io;
+use std::io::Write;
 
 // The last of the unions, of spread 1,023, and the named entry after it, of 1,024.
 const LAST_UNION: u32 = 9;
@@ -11,21 +13,20 @@ const LAST_UNION: u32 = 9;
 const NAMED: u32 = 10;
 
 // Makes the calls from first on, and prints what each answers.
-pub fn run(words: &mut [u32], first: u32, end: u32)
+pub fn run<W: Write>(out: &mut W, words: &mut [u32], first: u32, end: u32) -> io::Result<()>
     requires { first ≤ end }
 {
-    let mut which = first;
-    while which < end {
-        attempt(words, which);
-        which += 1;
+    for which in first..end {
+        attempt(out, words, which)?;
     }
+    Ok(())
 }
 
 // A call, and its answer.
-fn attempt(words: &mut [u32], which: u32) {
+fn attempt<W: Write>(out: &mut W, words: &mut [u32], which: u32) -> io::Result<()> {
     let before = copied(words);
     let told = call(words, which);
-    print_told(told, same(&before, words));
+    print_told(out, told, same(&before, words))
 }
 
 // Calls 0 to 13 fill regions, 14 to 18 go after a chain of unions, 19 to 36 open questions and work them.

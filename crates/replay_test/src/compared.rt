@@ -2,24 +2,31 @@
 use crate::held;
 use crate::held::expect;
 use model::{Made, Refusal, Reply};
+use std::io;
+use std::io::Write;
 
 // A make's answer.
-pub fn made(tally: &mut [u32; 96], made: Made, expected: u32) {
+pub fn made<W: Write>(
+    out: &mut W,
+    tally: &mut [u32; 96],
+    made: Made,
+    expected: u32,
+) -> io::Result<()> {
     match made {
-        Made::Number(n) => expect(tally, held::NUMBER, expected, n),
-        Made::Refused(r) => refused(tally, r),
+        Made::Number(n) => expect(out, tally, held::NUMBER, expected, n),
+        Made::Refused(r) => refused(out, tally, r),
     }
 }
 
 // The answer of a call that has nothing to say.
-pub fn done(tally: &mut [u32; 96], reply: Reply) {
+pub fn done<W: Write>(out: &mut W, tally: &mut [u32; 96], reply: Reply) -> io::Result<()> {
     match reply {
-        Reply::Done => {}
-        Reply::Refused(r) => refused(tally, r),
+        Reply::Done => Ok(()),
+        Reply::Refused(r) => refused(out, tally, r),
     }
 }
 
 // Tells a refusal.
-fn refused(tally: &mut [u32; 96], r: Refusal) {
-    expect(tally, held::REFUSAL, 0, refusals::number(r));
+fn refused<W: Write>(out: &mut W, tally: &mut [u32; 96], r: Refusal) -> io::Result<()> {
+    expect(out, tally, held::REFUSAL, 0, refusals::number(r))
 }

@@ -21,12 +21,10 @@ pub fn is_functor(words: &[u32], n: u32, a: u32, b: u32) -> bool {
 
 // Whether one of so many field records from the first on has this name.
 fn has_field(words: &[u32], first: u32, size: u32, name: u32) -> bool {
-    let mut i: u32 = 0;
-    while i < size {
-        if name_of(words, std::num::wrapping_add_u32(first, i)) == name {
+    for i in 0..size {
+        if name_of(words, first.wrapping_add(i)) == name {
             return true;
         }
-        i += 1;
     }
     false
 }
@@ -40,14 +38,12 @@ fn name_of(words: &[u32], n: u32) -> u32 {
 pub fn count_fields(words: &[u32], tally: &mut [u32; 96], sub: u32, sup: u32) {
     let first = x_of(words, sup);
     let size = y_of(words, sup);
-    let mut i: u32 = 0;
-    while i < size {
-        let met = field_met(words, sub, std::num::wrapping_add_u32(first, i));
+    for i in 0..size {
+        let met = field_met(words, sub, first.wrapping_add(i));
         add(tally, met, 1);
         if met == FIELD_MISSING {
             return;
         }
-        i += 1;
     }
     if has_dynamic(words, sub) & has_dynamic(words, sup) {
         add(tally, DYNAMICS, 1);

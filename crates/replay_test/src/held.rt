@@ -1,6 +1,8 @@
 // How a difference is told. What is held to the Rust's has a number, by its place in the list of names.
 use crate::tally::{DIFFERENCES, LINES, SCRIPTS, add};
 use printing::{print_two, print_word};
+use std::io;
+use std::io::Write;
 
 pub const NUMBER: u32 = 0;
 
@@ -66,33 +68,42 @@ pub const NO_LETTER: u32 = 1;
 pub const NO_RECORD: u32 = 2;
 
 // Tells a difference, if there is one: the script and the line, what it is, the Rust's number and ours.
-pub fn expect(tally: &mut [u32; 96], what: u32, expected: u32, came: u32) {
+pub fn expect<W: Write>(
+    out: &mut W,
+    tally: &mut [u32; 96],
+    what: u32,
+    expected: u32,
+    came: u32,
+) -> io::Result<()> {
     if expected != came {
-        print_place(tally);
-        print_what(what);
-        print_two(b": expected %, came %\n", expected, came);
+        print_place(out, tally)?;
+        print_what(out, what)?;
+        print_two(out, b": expected %, came %\n", expected, came)?;
     }
+    Ok(())
 }
 
 // Where in the file.
-fn print_place(tally: &mut [u32; 96]) {
+fn print_place<W: Write>(out: &mut W, tally: &mut [u32; 96]) -> io::Result<()> {
     add(tally, DIFFERENCES, 1);
-    print_two(b"script %, line %, ", tally[SCRIPTS], tally[LINES]);
+    print_two(out, b"script %, line %, ", tally[SCRIPTS], tally[LINES])
 }
 
 // What differs.
-fn print_what(what: u32) {
+fn print_what<W: Write>(out: &mut W, what: u32) -> io::Result<()> {
     print_word(
+        out,
         b"number|refusal|steps of an instalment|answer|steps|answer's sub|answer's sup|answer's name|entries|bounds|visited pairs|level|flags|negation|kind|x|y|z|field's name|field's entry|field's optional|bound|visited pair's sub|visited pair's sup|equal pair's left|equal pair's right|equal pairs|pending pairs",
         what,
-    );
+    )
 }
 
 // Tells that a line cannot be read, and why.
-pub fn refuse(tally: &mut [u32; 96], why: u32) {
-    print_place(tally);
+pub fn refuse<W: Write>(out: &mut W, tally: &mut [u32; 96], why: u32) -> io::Result<()> {
+    print_place(out, tally)?;
     print_word(
+        out,
         b"more than 32 numbers, or a byte that is no digit\n|no letter that begins a line\n|the record is not there\n",
         why,
-    );
+    )
 }

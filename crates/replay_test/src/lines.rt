@@ -7,38 +7,58 @@ use crate::makes::{is_make, make, put};
 use crate::tally::{LINES, SCRIPTS, add};
 use crate::{dumped, held, questions_asked, tables};
 use printing::place_of;
+use std::io;
+use std::io::Write;
 use table_words::word;
 
 // More numbers than a line may have: the line cannot be read.
 const UNREADABLE: usize = 33;
 
 // Runs every line.
-pub fn replay(text: &[u8], words: &mut [u32], tally: &mut [u32; 96]) {
+pub fn replay<W: Write>(
+    out: &mut W,
+    text: &[u8],
+    words: &mut [u32],
+    tally: &mut [u32; 96],
+) -> io::Result<()> {
     let mut at = 0;
     while at < text.len() {
         let end = place_of(text, at, b'\n');
-        run(&text[at..end], words, tally);
+        run(out, &text[at..end], words, tally)?;
         at = end + 1;
     }
+    Ok(())
 }
 
 // Runs a line.
-fn run(text: &[u8], words: &mut [u32], tally: &mut [u32; 96]) {
+fn run<W: Write>(
+    out: &mut W,
+    text: &[u8],
+    words: &mut [u32],
+    tally: &mut [u32; 96],
+) -> io::Result<()> {
     add(tally, LINES, 1);
     if text.len() == 0 {
-        return;
+        return Ok(());
     }
     let mut line = [0u32; 32];
     let count = numbers(text, &mut line);
-    obey(words, tally, letter(text), &line, count);
+    obey(out, words, tally, letter(text), &line, count)
 }
 
 // Runs a line of so many numbers.
-fn obey(words: &mut [u32], tally: &mut [u32; 96], letter: u8, line: &[u32; 32], count: usize) {
+fn obey<W: Write>(
+    out: &mut W,
+    words: &mut [u32],
+    tally: &mut [u32; 96],
+    letter: u8,
+    line: &[u32; 32],
+    count: usize,
+) -> io::Result<()> {
     if count > 32 {
-        return refuse(tally, held::UNREADABLE);
+        return refuse(out, tally, held::UNREADABLE);
     }
-    act(words, tally, letter, first(line, count));
+    act(out, words, tally, letter, first(line, count))
 }
 
 // The first so many numbers.
@@ -57,10 +77,8 @@ fn letter(text: &[u8]) -> u8 {
 // Reads a line's numbers, and tells how many there are.
 fn numbers(text: &[u8], line: &mut [u32; 32]) -> usize {
     let mut count: usize = 0;
-    let mut at: usize = 1;
-    while at < text.len() {
+    for at in 1..text.len() {
         count = next(text[at], line, count);
-        at += 1;
     }
     count
 }
@@ -107,25 +125,37 @@ fn wide(digit: u8) -> u32
 }
 
 // Does what a line says, or holds the image to it.
-fn act(words: &mut [u32], tally: &mut [u32; 96], letter: u8, line: &[u32]) {
+fn act<W: Write>(
+    out: &mut W,
+    words: &mut [u32],
+    tally: &mut [u32; 96],
+    letter: u8,
+    line: &[u32],
+) -> io::Result<()> {
     if is_make(letter) {
-        return made(tally, make(words, letter, line), word(line, 0));
+        return made(out, tally, make(words, letter, line), word(line, 0));
     }
     match letter {
-        b'n' => begin(words, tally, line),
-        b'm' | b'b' | b's' | b'+' | b'-' => put(words, tally, letter, line),
-        b'a' | b'q' => questions_asked::question(words, tally, letter, line),
-        _ => dumped::shown(words, tally, letter, line),
+        b'n' => begin(out, words, tally, line),
+        b'm' | b'b' | b's' | b'+' | b'-' => put(out, words, tally, letter, line),
+        b'a' | b'q' => questions_asked::question(out, words, tally, letter, line),
+        _ => dumped::shown(out, words, tally, letter, line),
     }
 }
 
 // Starts a script.
-fn begin(words: &mut [u32], tally: &mut [u32; 96], line: &[u32]) {
+fn begin<W: Write>(
+    out: &mut W,
+    words: &mut [u32],
+    tally: &mut [u32; 96],
+    line: &[u32],
+) -> io::Result<()> {
     add(tally, SCRIPTS, 1);
     let names = word(line, 0);
     let functor = word(line, 1);
     done(
+        out,
         tally,
         sheafwinch::start(words, names, functor, tables::capacities()),
-    );
+    )
 }

@@ -3,6 +3,8 @@ use crate::compared::done;
 use crate::dumped::read_entry;
 use crate::tally::{BOUNDS_PUT, MARKS_PUT, add};
 use model::{Dynamic, Made, Reply};
+use std::io;
+use std::io::Write;
 use table_words::word;
 
 // Whether a line makes an entry.
@@ -69,11 +71,17 @@ fn dynamic(n: u32) -> Dynamic {
 }
 
 // Puts what a line says.
-pub fn put(words: &mut [u32], tally: &mut [u32; 96], letter: u8, line: &[u32]) {
+pub fn put<W: Write>(
+    out: &mut W,
+    words: &mut [u32],
+    tally: &mut [u32; 96],
+    letter: u8,
+    line: &[u32],
+) -> io::Result<()> {
     match letter {
-        b'm' => mark(words, tally, word(line, 0)),
-        b'b' => put_bound(words, tally, line),
-        _ => done(tally, moved(words, letter, line)),
+        b'm' => mark(out, words, tally, word(line, 0)),
+        b'b' => put_bound(out, words, tally, line),
+        _ => done(out, tally, moved(words, letter, line)),
     }
 }
 
@@ -87,18 +95,25 @@ fn moved(words: &mut [u32], letter: u8, line: &[u32]) -> Reply {
 }
 
 // Marks an entry, and counts it if it was not marked.
-fn mark(words: &mut [u32], tally: &mut [u32; 96], n: u32) {
+fn mark<W: Write>(out: &mut W, words: &mut [u32], tally: &mut [u32; 96], n: u32) -> io::Result<()> {
     add(tally, MARKS_PUT, 1 - read_entry(words, n).flags % 2);
-    done(tally, sheafwinch::mark(words, n));
+    done(out, tally, sheafwinch::mark(words, n))
 }
 
 // Puts a bound, and counts it if it is new.
-fn put_bound(words: &mut [u32], tally: &mut [u32; 96], line: &[u32]) {
+fn put_bound<W: Write>(
+    out: &mut W,
+    words: &mut [u32],
+    tally: &mut [u32; 96],
+    line: &[u32],
+) -> io::Result<()> {
     let before = word(words, image::format::BOUNDS_COUNT_AT);
     done(
+        out,
         tally,
         sheafwinch::put_bound(words, word(line, 0), word(line, 1), word(line, 2)),
-    );
+    )?;
     let after = word(words, image::format::BOUNDS_COUNT_AT);
-    add(tally, BOUNDS_PUT, std::num::wrapping_sub_u32(after, before));
+    add(tally, BOUNDS_PUT, after.wrapping_sub(before));
+    Ok(())
 }

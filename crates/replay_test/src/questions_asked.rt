@@ -5,6 +5,8 @@ use crate::held;
 use crate::held::expect;
 use crate::tally::{ANSWERS, INSTALMENTS, QUESTIONS, STEPS, add};
 use model::{Answer, Failure, Instalment, Opening};
+use std::io;
+use std::io::Write;
 use table_words::word;
 
 // How a question ended.
@@ -25,7 +27,7 @@ const UNOPENED: u32 = 200;
 const UNLIMITED: u32 = 4294967295;
 
 // What the instalments answered so far: the last answer with its pair and name, all steps, and what is left of the limit.
-#[derive(Drop)]
+#[derive(Clone, Copy)]
 struct Worked {
     answer: u32,
     sub: u32,
@@ -36,14 +38,20 @@ struct Worked {
 }
 
 // A question: two entries, the limit, the steps, the answer, and the pair and the name that it has.
-pub fn question(words: &mut [u32], tally: &mut [u32; 96], letter: u8, line: &[u32]) {
+pub fn question<W: Write>(
+    out: &mut W,
+    words: &mut [u32],
+    tally: &mut [u32; 96],
+    letter: u8,
+    line: &[u32],
+) -> io::Result<()> {
     add(tally, QUESTIONS, 1);
     let limit = limit_of(line);
     let first = least(tally[QUESTIONS] % 4, limit);
     let o = opened(words, letter, word(line, 0), word(line, 1), first);
-    let begun = begin(tally, limit, first, o);
-    let w = work_all(words, tally, begun);
-    settle(words, tally, line, w);
+    let begun = begin(out, tally, limit, first, o)?;
+    let w = work_all(out, words, tally, begun)?;
+    settle(out, words, tally, line, w)
 }
 
 // The steps that it may take.
@@ -56,12 +64,19 @@ fn limit_of(line: &[u32]) -> u32 {
 }
 
 // Holds its answer to the Rust's; one that has not ended is given up.
-fn settle(words: &mut [u32], tally: &mut [u32; 96], line: &[u32], w: Worked) {
-    compare(tally, line, w);
+fn settle<W: Write>(
+    out: &mut W,
+    words: &mut [u32],
+    tally: &mut [u32; 96],
+    line: &[u32],
+    w: Worked,
+) -> io::Result<()> {
+    compare(out, tally, line, w)?;
     count(tally, w.answer, w.steps);
     if w.answer == MORE {
-        done(tally, sheafwinch::abandon(words));
+        done(out, tally, sheafwinch::abandon(words))?;
     }
+    Ok(())
 }
 
 // Opens it, plain.
@@ -73,22 +88,31 @@ fn opened(words: &mut [u32], letter: u8, left: u32, right: u32, budget: u32) -> 
 }
 
 // What its opening answered: a refusal, or the first instalment.
-fn begin(tally: &mut [u32; 96], limit: u32, budget: u32, opening: Opening) -> Worked {
+fn begin<W: Write>(
+    out: &mut W,
+    tally: &mut [u32; 96],
+    limit: u32,
+    budget: u32,
+    opening: Opening,
+) -> io::Result<Worked> {
     match opening {
-        Opening::Refused(r) => ended(UNOPENED + refusals::number(r), 0, 0, 0, 0),
-        Opening::Worked(r) => added(tally, 0, limit, budget, r),
+        Opening::Refused(r) => Ok(ended(UNOPENED + refusals::number(r), 0, 0, 0, 0)),
+        Opening::Worked(r) => added(out, tally, 0, limit, budget, r),
     }
 }
 
 // Works it on, in four instalments.
-fn work_all(words: &mut [u32], tally: &mut [u32; 96], begun: Worked) -> Worked {
+fn work_all<W: Write>(
+    out: &mut W,
+    words: &mut [u32],
+    tally: &mut [u32; 96],
+    begun: Worked,
+) -> io::Result<Worked> {
     let mut w = begun;
-    let mut turn: u32 = 1;
-    while turn < 5 {
-        w = work_on(words, tally, w, budget(turn, w.left));
-        turn += 1;
+    for turn in 1..5 {
+        w = work_on(out, words, tally, w, budget(turn, w.left))?;
     }
-    w
+    Ok(w)
 }
 
 // The budget of an instalment after the first.
@@ -105,25 +129,38 @@ fn least(a: u32, b: u32) -> u32 {
 }
 
 // One instalment more, unless the question has ended.
-fn work_on(words: &mut [u32], tally: &mut [u32; 96], w: Worked, budget: u32) -> Worked {
+fn work_on<W: Write>(
+    out: &mut W,
+    words: &mut [u32],
+    tally: &mut [u32; 96],
+    w: Worked,
+    budget: u32,
+) -> io::Result<Worked> {
     if w.answer != MORE {
-        return w;
+        return Ok(w);
     }
     let r = sheafwinch::work(words, budget);
-    added(tally, w.steps, w.left, budget, r)
+    added(out, tally, w.steps, w.left, budget, r)
 }
 
 // What the instalments answered with one more: the steps and what was left of the limit before it, its budget, and itself.
-fn added(tally: &mut [u32; 96], before: u32, limit: u32, budget: u32, r: Instalment) -> Worked {
+fn added<W: Write>(
+    out: &mut W,
+    tally: &mut [u32; 96],
+    before: u32,
+    limit: u32,
+    budget: u32,
+    r: Instalment,
+) -> io::Result<Worked> {
     add(tally, INSTALMENTS, 1);
-    let steps = std::num::wrapping_add_u32(before, r.steps);
-    let left = std::num::wrapping_sub_u32(limit, r.steps);
+    let steps = before.wrapping_add(r.steps);
+    let left = limit.wrapping_sub(r.steps);
     let answer = r.answer;
     match answer {
-        Answer::Yes => ended(YES, 0, 0, 0, steps),
-        Answer::More => stopped(tally, budget, r.steps, steps, left),
-        Answer::Failed(f) => failed(f, steps),
-        Answer::Refused(r) => ended(REFUSED + refusals::number(r), 0, 0, 0, steps),
+        Answer::Yes => Ok(ended(YES, 0, 0, 0, steps)),
+        Answer::More => stopped(out, tally, budget, r.steps, steps, left),
+        Answer::Failed(f) => Ok(failed(f, steps)),
+        Answer::Refused(r) => Ok(ended(REFUSED + refusals::number(r), 0, 0, 0, steps)),
     }
 }
 
@@ -140,16 +177,23 @@ fn ended(answer: u32, sub: u32, sup: u32, name: u32, steps: u32) -> Worked {
 }
 
 // One that has not: the instalment made as many steps as it was given.
-fn stopped(tally: &mut [u32; 96], budget: u32, done: u32, steps: u32, left: u32) -> Worked {
-    expect(tally, held::INSTALMENT_STEPS, budget, done);
-    Worked {
+fn stopped<W: Write>(
+    out: &mut W,
+    tally: &mut [u32; 96],
+    budget: u32,
+    done: u32,
+    steps: u32,
+    left: u32,
+) -> io::Result<Worked> {
+    expect(out, tally, held::INSTALMENT_STEPS, budget, done)?;
+    Ok(Worked {
         answer: MORE,
         sub: 0,
         sup: 0,
         name: 0,
         steps: steps,
         left: left,
-    }
+    })
 }
 
 // One that has failed.
@@ -161,12 +205,17 @@ fn failed(f: Failure, steps: u32) -> Worked {
 }
 
 // Holds an answer to the Rust's: itself and its steps, its pair and its name.
-fn compare(tally: &mut [u32; 96], line: &[u32], w: Worked) {
-    expect(tally, held::ANSWER, word(line, 4), w.answer);
-    expect(tally, held::STEPS, word(line, 3), w.steps);
-    expect(tally, held::ANSWER_SUB, word(line, 5), w.sub);
-    expect(tally, held::ANSWER_SUP, word(line, 6), w.sup);
-    expect(tally, held::ANSWER_NAME, word(line, 7), w.name);
+fn compare<W: Write>(
+    out: &mut W,
+    tally: &mut [u32; 96],
+    line: &[u32],
+    w: Worked,
+) -> io::Result<()> {
+    expect(out, tally, held::ANSWER, word(line, 4), w.answer)?;
+    expect(out, tally, held::STEPS, word(line, 3), w.steps)?;
+    expect(out, tally, held::ANSWER_SUB, word(line, 5), w.sub)?;
+    expect(out, tally, held::ANSWER_SUP, word(line, 6), w.sup)?;
+    expect(out, tally, held::ANSWER_NAME, word(line, 7), w.name)
 }
 
 // Counts an answer and its steps.

@@ -16,7 +16,7 @@ const DEPTH: u32 = 100;
 const NONE: u32 = 4294967295;
 
 // Two entries.
-#[derive(Drop)]
+#[derive(Clone, Copy)]
 struct Parts {
     x: u32,
     y: u32,

@@ -1,6 +1,7 @@
 // What is counted while the scripts run.
-use libc::STDOUT_FILENO;
 use printing::write_each;
+use std::io;
+use std::io::Write;
 
 // Where the tally has each count, first those that are printed, in that order. Scripts and questions.
 pub const SCRIPTS: usize = 0;
@@ -59,30 +60,30 @@ pub const BOUND_NEXT: usize = 70;
 // Adds to a count.
 pub fn add(tally: &mut [u32; 96], which: usize, n: u32) {
     if which < 96 {
-        tally[which] = std::num::wrapping_add_u32(tally[which], n);
+        tally[which] = tally[which].wrapping_add(n);
     }
 }
 
 // All counts.
-pub fn print_tally(tally: &mut [u32; 96]) {
+pub fn print_tally<W: Write>(out: &mut W, tally: &mut [u32; 96]) -> io::Result<()> {
     tally[REPEATED] = repeated(tally);
-    tally[PASSED] = std::num::wrapping_sub_u32(tally[MARKS], tally[MARKS_PUT]);
-    tally[IDLE] = std::num::wrapping_sub_u32(tally[STEPS], tally[VISITED]);
-    print_counts(tally);
+    tally[PASSED] = tally[MARKS].wrapping_sub(tally[MARKS_PUT]);
+    tally[IDLE] = tally[STEPS].wrapping_sub(tally[VISITED]);
+    print_counts(out, tally)
 }
 
 // How many of the rules with a variable added no bound.
 fn repeated(tally: &[u32; 96]) -> u32 {
-    let concrete = std::num::wrapping_add_u32(tally[RULES + 1], tally[RULES + 2]);
-    let visits = std::num::wrapping_add_u32(tally[RULES], concrete);
-    let added = std::num::wrapping_sub_u32(tally[BOUNDS], tally[BOUNDS_PUT]);
-    std::num::wrapping_sub_u32(visits, added)
+    let concrete = tally[RULES + 1].wrapping_add(tally[RULES + 2]);
+    let visits = tally[RULES].wrapping_add(concrete);
+    let added = tally[BOUNDS].wrapping_sub(tally[BOUNDS_PUT]);
+    visits.wrapping_sub(added)
 }
 
 // The counts with their names.
-fn print_counts(tally: &[u32; 96]) {
+fn print_counts<W: Write>(out: &mut W, tally: &[u32; 96]) -> io::Result<()> {
     write_each(
-        STDOUT_FILENO,
+        out,
         b"scripts: %
 questions: %
   answered: yes, and stopped at the limit: %, %
@@ -132,5 +133,5 @@ union on the right, one of the same kind: %, %
 union on the right, both: %
 ",
         tally,
-    );
+    )
 }

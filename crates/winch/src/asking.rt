@@ -1,10 +1,11 @@
 // Questions: opened plain or held, worked to the end or in instalments, abandoned.
 use dumps::shown::print_entry;
-use libc::STDERR_FILENO;
 use model::{Answer, Failure, Instalment, Opening, Refusal, Reply};
 use printing::{write, write_one};
 use script::desk::{IS_LIMITED, IS_PLAIN, LIMIT};
 use script_names::answers::{print_mismatch, print_missing, print_refusal, tell, tell_refusal};
+use std::io;
+use std::io::Write;
 
 // The steps of an instalment, where a question is worked to its end.
 const INSTALMENT: u32 = 10000;
@@ -13,7 +14,7 @@ const INSTALMENT: u32 = 10000;
 pub const ALL: u32 = 4294967295;
 
 // How a question is opened.
-#[derive(Drop)]
+#[derive(Clone, Copy)]
 pub struct Question {
     pub is_held: bool,
     pub is_open: bool,
@@ -23,21 +24,22 @@ pub struct Question {
 }
 
 // Opens a question; works it to the end or to the limit, unless it stays open.
-pub fn open_question(
-    fd: i32,
+pub fn open_question<R: Eprint, W: Write>(
+    rt: &R,
+    out: &mut W,
     text: &[u8],
     desk: &[u32; 10256],
     names: &[u8],
     words: &mut [u32],
     q: Question,
-) {
+) -> io::Result<()> {
     match opened(words, q, first_budget(desk, q)) {
-        Opening::Refused(r) => tell_refusal(fd, names, r),
+        Opening::Refused(r) => tell_refusal(out, names, r),
         Opening::Worked(done) => {
             if q.is_open {
-                tell_open(fd, text, desk, names, words, done);
+                tell_open(out, text, desk, names, words, done)
             } else {
-                settle(fd, text, desk, names, words, done);
+                settle(rt, out, text, desk, names, words, done)
             }
         }
     }
@@ -58,35 +60,37 @@ fn opened(words: &mut [u32], q: Question, budget: u32) -> Opening {
 }
 
 // A question that stays open: its opening made no step.
-fn tell_open(
-    fd: i32,
+fn tell_open<W: Write>(
+    out: &mut W,
     text: &[u8],
     desk: &[u32; 10256],
     names: &[u8],
     words: &[u32],
     done: Instalment,
-) {
+) -> io::Result<()> {
     if is_more(done) {
-        tell(fd, b"asked");
+        tell(out, b"asked")
     } else {
-        tell_instalment(fd, text, desk, names, words, done);
+        tell_instalment(out, text, desk, names, words, done)
     }
 }
 
 // Goes on after the first instalment to the end, or to the limit; what has not ended there is given up.
-fn settle(
-    fd: i32,
+fn settle<R: Eprint, W: Write>(
+    rt: &R,
+    out: &mut W,
     text: &[u8],
     desk: &[u32; 10256],
     names: &[u8],
     words: &mut [u32],
     first: Instalment,
-) {
-    let done = work_on(words, first, limit(desk));
-    tell_instalment(fd, text, desk, names, words, done);
+) -> io::Result<()> {
+    let done = work_on(rt, words, first, limit(desk))?;
+    tell_instalment(out, text, desk, names, words, done)?;
     if is_more(done) {
         sheafwinch::abandon(words);
     }
+    Ok(())
 }
 
 // The steps that a question has at most.
@@ -102,18 +106,23 @@ fn limit(desk: &[u32; 10256]) -> u32 {
 }
 
 // Works so many steps in instalments, after the first, and tells how far it is after each but the last.
-fn work_on(words: &mut [u32], first: Instalment, limit: u32) -> Instalment {
+fn work_on<R: Eprint>(
+    rt: &R,
+    words: &mut [u32],
+    first: Instalment,
+    limit: u32,
+) -> io::Result<Instalment> {
     let mut done = first;
     let mut left = limit;
     while INSTALMENT < left {
         if !is_more(done) {
-            return done;
+            return Ok(done);
         }
-        tell_so_far(done.steps);
+        tell_so_far(rt, done.steps)?;
         left -= INSTALMENT;
         done = added(done.steps, sheafwinch::work(words, budget(left)));
     }
-    done
+    Ok(done)
 }
 
 // The steps of the next instalment.
@@ -126,7 +135,7 @@ fn added(steps: u32, done: Instalment) -> Instalment {
     let answer = done.answer;
     Instalment {
         answer: answer,
-        steps: std::num::wrapping_add_u32(steps, done.steps),
+        steps: steps.wrapping_add(done.steps),
     }
 }
 
@@ -140,35 +149,36 @@ fn is_more(done: Instalment) -> bool {
 }
 
 // How far a long question is.
-fn tell_so_far(steps: u32) {
-    write_one(STDERR_FILENO, b"steps so far: %\n", steps);
+fn tell_so_far(rt: &impl Eprint, steps: u32) -> io::Result<()> {
+    eprintln!(rt; "steps so far: {steps}")
 }
 
 // Works an open question, so many steps at most.
-pub fn work(
-    fd: i32,
+pub fn work<R: Eprint, W: Write>(
+    rt: &R,
+    out: &mut W,
     text: &[u8],
     desk: &[u32; 10256],
     names: &[u8],
     words: &mut [u32],
     limit: u32,
-) {
+) -> io::Result<()> {
     let first = sheafwinch::work(words, budget(limit));
-    let done = work_on(words, first, limit);
+    let done = work_on(rt, words, first, limit)?;
     let answer = done.answer;
     match answer {
-        Answer::Refused(r) => tell_unfinished(fd, names, r, done.steps),
-        _ => tell_instalment(fd, text, desk, names, words, done),
+        Answer::Refused(r) => tell_unfinished(out, names, r, done.steps),
+        _ => tell_instalment(out, text, desk, names, words, done),
     }
 }
 
 // A refusal of work: of a step, with the steps that were made; of the call, without.
-fn tell_unfinished(fd: i32, names: &[u8], r: Refusal, steps: u32) {
-    print_refusal(fd, names, r);
+fn tell_unfinished<W: Write>(out: &mut W, names: &[u8], r: Refusal, steps: u32) -> io::Result<()> {
+    print_refusal(out, names, r)?;
     if is_of_step(r) {
-        print_steps(fd, steps);
+        print_steps(out, steps)?;
     }
-    write(fd, b"\n");
+    write(out, b"\n")
 }
 
 // Whether a refusal of work is one of a step.
@@ -181,71 +191,78 @@ fn is_of_step(r: Refusal) -> bool {
 }
 
 // Gives a question up.
-pub fn abandon(fd: i32, names: &[u8], words: &mut [u32]) {
+pub fn abandon<W: Write>(out: &mut W, names: &[u8], words: &mut [u32]) -> io::Result<()> {
     match sheafwinch::abandon(words) {
-        Reply::Done => tell(fd, b"abandoned"),
-        Reply::Refused(r) => tell_refusal(fd, names, r),
+        Reply::Done => tell(out, b"abandoned"),
+        Reply::Refused(r) => tell_refusal(out, names, r),
     }
 }
 
 // What the steps of an instalment answer, and how many they are: a refusal here is one of a step.
-fn tell_instalment(
-    fd: i32,
+fn tell_instalment<W: Write>(
+    out: &mut W,
     text: &[u8],
     desk: &[u32; 10256],
     names: &[u8],
     words: &[u32],
     done: Instalment,
-) {
+) -> io::Result<()> {
     let answer = done.answer;
     match answer {
-        Answer::Yes => write(fd, b"yes"),
-        Answer::More => write(fd, b"more"),
-        Answer::Failed(f) => print_failure(fd, names, f),
-        Answer::Refused(r) => print_refusal(fd, names, r),
+        Answer::Yes => write(out, b"yes")?,
+        Answer::More => write(out, b"more")?,
+        Answer::Failed(f) => print_failure(out, names, f)?,
+        Answer::Refused(r) => print_refusal(out, names, r)?,
     }
-    print_steps(fd, done.steps);
+    print_steps(out, done.steps)?;
     match answer {
-        Answer::Failed(f) => print_shapes(fd, text, desk, names, words, f),
+        Answer::Failed(f) => print_shapes(out, text, desk, names, words, f)?,
         _ => {}
     }
-    write(fd, b"\n");
+    write(out, b"\n")
 }
 
 // The steps of an instalment.
-fn print_steps(fd: i32, steps: u32) {
-    write_one(fd, b" steps %", steps);
+fn print_steps<W: Write>(out: &mut W, steps: u32) -> io::Result<()> {
+    write_one(out, b" steps %", steps)
 }
 
 // Why a question failed.
-fn print_failure(fd: i32, names: &[u8], f: Failure) {
+fn print_failure<W: Write>(out: &mut W, names: &[u8], f: Failure) -> io::Result<()> {
     match f {
-        Failure::Mismatch { sub, sup } => print_mismatch(fd, sub, sup),
-        Failure::MissingField { sub, sup, name } => print_missing(fd, names, sub, sup, name),
+        Failure::Mismatch { sub, sup } => print_mismatch(out, sub, sup),
+        Failure::MissingField { sub, sup, name } => print_missing(out, names, sub, sup, name),
     }
 }
 
 // The entries of a pair that does not fit.
-fn print_shapes(
-    fd: i32,
+fn print_shapes<W: Write>(
+    out: &mut W,
     text: &[u8],
     desk: &[u32; 10256],
     names: &[u8],
     words: &[u32],
     f: Failure,
-) {
+) -> io::Result<()> {
     match f {
         Failure::Mismatch { sub, sup } => {
-            print_shape(fd, text, desk, names, words, sub);
-            print_shape(fd, text, desk, names, words, sup);
+            print_shape(out, text, desk, names, words, sub)?;
+            print_shape(out, text, desk, names, words, sup)
         }
-        Failure::MissingField { .. } => {}
+        Failure::MissingField { .. } => Ok(()),
     }
 }
 
 // An entry in brackets.
-fn print_shape(fd: i32, text: &[u8], desk: &[u32; 10256], names: &[u8], words: &[u32], n: u32) {
-    write(fd, b" [");
-    print_entry(fd, text, desk, names, words, n);
-    write(fd, b"]");
+fn print_shape<W: Write>(
+    out: &mut W,
+    text: &[u8],
+    desk: &[u32; 10256],
+    names: &[u8],
+    words: &[u32],
+    n: u32,
+) -> io::Result<()> {
+    write(out, b" [")?;
+    print_entry(out, text, desk, names, words, n)?;
+    write(out, b"]")
 }

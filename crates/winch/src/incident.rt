@@ -1,12 +1,13 @@
 // The customer's incident as a script: a request that lacks a field is resent, a check that is timed out goes on, and a shape that
 // meets its own bound ends.
 use crate::run;
-use libc::STDOUT_FILENO;
 use printing::write;
+use std::io;
 
 // Runs the script, or prints it.
-pub fn tell_incident(is_shown: bool) {
+pub fn tell_incident(rt: &HostRuntime, is_shown: bool) -> io::Result<()> {
     run_or_print(
+        rt,
         is_shown,
         b"echo 1
 # 1. A request without its polarisation is resent
@@ -78,14 +79,15 @@ ask 0 0                # Another question has to wait.
 abandon
 ask 0 0
 ",
-    );
+    )
 }
 
 // Runs a script, or prints it.
-fn run_or_print(is_shown: bool, script: &[u8]) {
+fn run_or_print(rt: &HostRuntime, is_shown: bool, script: &[u8]) -> io::Result<()> {
+    let mut out = rt.stdout();
     if is_shown {
-        write(STDOUT_FILENO, script);
+        write(&mut out, script)
     } else {
-        run(STDOUT_FILENO, script, false);
+        run(rt, &mut out, script, false)
     }
 }

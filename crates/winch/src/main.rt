@@ -13,60 +13,73 @@ mod tables;
 mod words;
 
 use incident::tell_incident;
-use libc::{STDERR_FILENO, STDIN_FILENO, STDOUT_FILENO};
-use printing::{index_of, is, write, write_one};
+use printing::{index_of, is, write};
 use script::desk;
 use script::help::{print_help, print_usage};
 use script::text::part;
 use script_names::name_lists;
+use std::env::{Env, FillError};
+use std::io::{Read, Write};
+use std::{fs, io, str};
 
 // A script has at most so many bytes.
 const SCRIPT_MOST: usize = 1048576;
+
+// As many bytes of an argument are read.
+const ARGUMENT_MOST: usize = 4096;
+
+// The system's number for a name that is too long.
+const NAME_TOO_LONG: i32 = 36;
 
 // Room for a script and a byte more, to see that it is too long.
 fn script_room() -> [u8; 1048577] {
     [0u8; 1048577]
 }
 
-fn main() {
-    let count = os::arg_count();
-    if count < 2 {
-        return run_path(STDOUT_FILENO, b"-", false);
+fn main(rt: HostRuntime) -> io::Result<()> {
+    let mut first = [0u8; ARGUMENT_MOST];
+    match rt.arg(1, &mut first) {
+        Ok(size) => obey(&rt, &first[..size]),
+        Err(FillError::NotPresent) => run_path(&rt, &mut rt.stdout(), b"-", false),
+        Err(FillError::TooLong) => fail_long(&rt, b"the first argument"),
     }
-    let mut first = io::buffer();
-    let size = os::arg(1, &mut first);
-    if os::errno() != 0 {
-        return fail(b"the first argument");
-    }
-    obey(&first[..size], count);
 }
 
-// Obeys the arguments: the first, and how many there are with the program's own name.
-fn obey(first: &[u8], count: usize) {
-    if count == 2 {
-        return obey_one(first);
+// Obeys the arguments: the first, and what others there are.
+fn obey(rt: &HostRuntime, first: &[u8]) -> io::Result<()> {
+    let mut second = [0u8; ARGUMENT_MOST];
+    let given = rt.arg(2, &mut second);
+    if is_absent(&given) {
+        return obey_one(rt, first);
     }
-    if count != 3 {
-        return print_usage(STDERR_FILENO);
+    let mut third = [0u8; 1];
+    if !is_absent(&rt.arg(3, &mut third)) {
+        return print_usage(&mut rt.stderr());
     }
-    let mut second = io::buffer();
-    let size = os::arg(2, &mut second);
-    if os::errno() != 0 {
-        return fail(b"the second argument");
+    match given {
+        Ok(size) => obey_two(rt, first, &second[..size]),
+        Err(_) => fail_long(rt, b"the second argument"),
     }
-    obey_two(first, &second[..size]);
+}
+
+// Whether an argument is not there.
+fn is_absent(given: &Result<usize, FillError>) -> bool {
+    match given {
+        Err(FillError::NotPresent) => true,
+        _ => false,
+    }
 }
 
 // One argument.
-fn obey_one(word: &[u8]) {
+fn obey_one(rt: &HostRuntime, word: &[u8]) -> io::Result<()> {
     if asks_help(word) {
-        return print_help(STDOUT_FILENO);
+        return print_help(&mut rt.stdout());
     }
     match index_of(b"incident|dot|show", word) {
-        0 => tell_incident(false),
-        1 => run_path(STDERR_FILENO, b"-", true),
-        2 => print_usage(STDERR_FILENO),
-        _ => run_path(STDOUT_FILENO, word, false),
+        0 => tell_incident(rt, false),
+        1 => run_path(rt, &mut rt.stderr(), b"-", true),
+        2 => print_usage(&mut rt.stderr()),
+        _ => run_path(rt, &mut rt.stdout(), word, false),
     }
 }
 
@@ -76,92 +89,131 @@ fn asks_help(word: &[u8]) -> bool {
 }
 
 // Two arguments.
-fn obey_two(first: &[u8], second: &[u8]) {
+fn obey_two(rt: &HostRuntime, first: &[u8], second: &[u8]) -> io::Result<()> {
     if is(first, b"dot") {
-        return run_path(STDERR_FILENO, second, true);
+        return run_path(rt, &mut rt.stderr(), second, true);
     }
     if is(first, b"show") {
         if is(second, b"incident") {
-            return tell_incident(true);
+            return tell_incident(rt, true);
         }
     }
-    print_usage(STDERR_FILENO);
+    print_usage(&mut rt.stderr())
+}
+
+// Tells that an argument is too long.
+fn fail_long(rt: &HostRuntime, what: &[u8]) -> io::Result<()> {
+    fail(rt, what, io::Error::from_raw_os_error(NAME_TOO_LONG))
 }
 
 // Tells why the system refused something.
-fn fail(what: &[u8]) {
-    write(STDERR_FILENO, b"winch: ");
-    os::fail(what);
+fn fail(rt: &HostRuntime, what: &[u8], error: io::Error) -> io::Result<()> {
+    let text = format!(in rt.alloc(); "{error}")?;
+    let mut err = rt.stderr();
+    write(&mut err, b"winch: ")?;
+    write(&mut err, what)?;
+    writeln!(err, ": {}", reason(&text))
+}
+
+// An error's text without its number.
+fn reason(text: &str) -> &str {
+    match text.split_once(" (os error ") {
+        Some((before, _)) => before,
+        None => text,
+    }
 }
 
 // Runs the script of a file, or of standard input.
-fn run_path(fd: i32, path: &[u8], is_drawn: bool) {
+fn run_path<W: Write>(
+    rt: &HostRuntime,
+    out: &mut W,
+    path: &[u8],
+    is_drawn: bool,
+) -> io::Result<()> {
     if is(path, b"-") {
-        return run_input(fd, STDIN_FILENO, b"standard input", is_drawn);
+        return run_input(rt, out, &mut rt.stdin(), b"standard input", is_drawn);
     }
-    let input = os::open_read(path);
-    if input < 0 {
-        return fail(path);
+    match open(rt, path) {
+        Ok(mut input) => run_input(rt, out, &mut input, path, is_drawn),
+        Err(error) => fail(rt, path, error),
     }
-    run_input(fd, input, path, is_drawn);
-    libc::close(input);
+}
+
+// Opens a file. A path is text: one that is not is told as invalid.
+fn open(rt: &HostRuntime, path: &[u8]) -> io::Result<fs::File> {
+    match str::from_utf8(path) {
+        Ok(path) => fs::open(rt, path),
+        Err(_) => Err(io::Error::from(io::ErrorKind::InvalidInput)),
+    }
 }
 
 // Reads a script whole and runs it.
-fn run_input(fd: i32, input: i32, path: &[u8], is_drawn: bool) {
+fn run_input<R: Read, W: Write>(
+    rt: &HostRuntime,
+    out: &mut W,
+    input: &mut R,
+    path: &[u8],
+    is_drawn: bool,
+) -> io::Result<()> {
     let mut script = script_room();
-    let size = fill(input, &mut script);
-    if size <= SCRIPT_MOST {
-        if is_unreadable(input) {
-            return fail(path);
-        }
+    match fill(input, &mut script) {
+        Ok(size) => run_script(rt, out, &script, size, path, is_drawn),
+        Err(error) => fail(rt, path, error),
     }
-    run_script(fd, &script, size, path, is_drawn);
 }
 
-// Reads a script.
-fn fill(input: i32, script: &mut [u8; 1048577]) -> usize {
-    io::read_full(input, script)
-}
-
-// Whether a file cannot be read further: where it has ended, it can.
-fn is_unreadable(input: i32) -> bool {
-    let mut byte = [0u8; 1];
-    libc::read(input, &mut byte) < 0
+// Reads until the bytes are full or the input ends, and tells how many it read.
+fn fill<R: Read>(input: &mut R, bytes: &mut [u8]) -> io::Result<usize> {
+    let mut size: usize = 0;
+    while size < bytes.len() {
+        let n = input.read(&mut bytes[size..])?;
+        if n == 0 {
+            break;
+        }
+        size += n;
+    }
+    Ok(size)
 }
 
 // Runs a script that was read, unless it is too long.
-fn run_script(fd: i32, script: &[u8; 1048577], size: usize, path: &[u8], is_drawn: bool) {
+fn run_script<W: Write>(
+    rt: &HostRuntime,
+    out: &mut W,
+    script: &[u8; 1048577],
+    size: usize,
+    path: &[u8],
+    is_drawn: bool,
+) -> io::Result<()> {
     if SCRIPT_MOST < size {
-        write(STDERR_FILENO, b"winch: ");
-        write(STDERR_FILENO, path);
-        write(STDERR_FILENO, b": a script has at most 1048576 bytes\n");
-        return;
+        let mut err = rt.stderr();
+        write(&mut err, b"winch: ")?;
+        write(&mut err, path)?;
+        return write(&mut err, b": a script has at most 1048576 bytes\n");
     }
-    run(fd, part(script, 0, size), is_drawn);
+    run(rt, out, part(script, 0, size), is_drawn)
 }
 
 // Runs a script; tells how many lines were wrong.
-fn run(fd: i32, script: &[u8], is_drawn: bool) {
-    let mut words = words::room();
+fn run<W: Write>(rt: &HostRuntime, out: &mut W, script: &[u8], is_drawn: bool) -> io::Result<()> {
+    let mut words = words::room(rt.alloc())?;
     let mut list = name_lists::list_room();
     let mut desk = desk::empty();
-    tables::start_largest(fd, script, &mut desk, &mut list, &mut words, 0);
-    lines::run(fd, script, &mut desk, &mut list, &mut words);
+    tables::start_largest(out, script, &mut desk, &mut list, &mut words, 0)?;
+    lines::run(rt, out, script, &mut desk, &mut list, &mut words)?;
     if is_drawn {
-        lines::draw(&desk, &list, &words);
+        lines::draw(rt, &desk, &list, &words)?;
     }
-    tell_wrong(desk[desk::WRONG]);
+    tell_wrong(rt, desk[desk::WRONG])
 }
 
 // How many lines were wrong, on standard error.
-fn tell_wrong(count: u32) {
+fn tell_wrong(rt: &HostRuntime, count: u32) -> io::Result<()> {
     if count == 0 {
-        return;
+        return Ok(());
     }
     if count == 1 {
-        write(STDERR_FILENO, b"winch: 1 line was wrong\n");
+        eprintln!(rt; "winch: 1 line was wrong")
     } else {
-        write_one(STDERR_FILENO, b"winch: % lines were wrong\n", count);
+        eprintln!(rt; "winch: {count} lines were wrong")
     }
 }

@@ -3,15 +3,24 @@ use model::{Made, Reply};
 use script::verbs;
 use script::wrong::{MANY_LEVELS, wrong};
 use script_names::answers::{tell_done, tell_made, tell_number, tell_refusal};
+use std::io;
+use std::io::Write;
 use table_words::{entries, word};
 
 // As many levels as `level` goes up or down on one line.
 const LEVELS_MOST: u32 = 1000;
 
 // Makes an entry and tells its number.
-pub fn make(fd: i32, names: &[u8], words: &mut [u32], verb: u32, x: u32, y: u32) {
+pub fn make<W: Write>(
+    out: &mut W,
+    names: &[u8],
+    words: &mut [u32],
+    verb: u32,
+    x: u32,
+    y: u32,
+) -> io::Result<()> {
     let made = made(words, verb, x, y);
-    tell_made(fd, names, made, entries(words));
+    tell_made(out, names, made, entries(words))
 }
 
 // Makes an entry.
@@ -28,9 +37,17 @@ fn made(words: &mut [u32], verb: u32, x: u32, y: u32) -> Made {
 }
 
 // Puts a mark, a bound or a variable's level; nothing is told when it is done.
-pub fn put(fd: i32, names: &[u8], words: &mut [u32], verb: u32, x: u32, y: u32, z: u32) {
+pub fn put<W: Write>(
+    out: &mut W,
+    names: &[u8],
+    words: &mut [u32],
+    verb: u32,
+    x: u32,
+    y: u32,
+    z: u32,
+) -> io::Result<()> {
     let reply = reply_of(words, verb, x, y, z);
-    tell_done(fd, names, reply);
+    tell_done(out, names, reply)
 }
 
 // Puts what a verb says.
@@ -43,10 +60,15 @@ fn reply_of(words: &mut [u32], verb: u32, x: u32, y: u32, z: u32) -> Reply {
 }
 
 // Enters or leaves a level, and tells which it is now.
-pub fn move_level(fd: i32, names: &[u8], words: &mut [u32], is_up: bool) {
+pub fn move_level<W: Write>(
+    out: &mut W,
+    names: &[u8],
+    words: &mut [u32],
+    is_up: bool,
+) -> io::Result<()> {
     match moved(words, is_up) {
-        Reply::Done => tell_number(fd, b"level", level_of(words)),
-        Reply::Refused(r) => tell_refusal(fd, names, r),
+        Reply::Done => tell_number(out, b"level", level_of(words)),
+        Reply::Refused(r) => tell_refusal(out, names, r),
     }
 }
 
@@ -65,14 +87,20 @@ fn level_of(words: &[u32]) -> u32 {
 }
 
 // Goes to a level by as many levels up or down; nothing is told when it is done.
-pub fn go_to_level(fd: i32, desk: &mut [u32; 10256], names: &[u8], words: &mut [u32], level: u32) {
+pub fn go_to_level<W: Write>(
+    out: &mut W,
+    desk: &mut [u32; 10256],
+    names: &[u8],
+    words: &mut [u32],
+    level: u32,
+) -> io::Result<()> {
     let current = level_of(words);
     let is_up = current < level;
     let count = distance(current, level);
     if LEVELS_MOST < count {
-        return wrong(fd, desk, MANY_LEVELS);
+        return wrong(out, desk, MANY_LEVELS);
     }
-    tell_done(fd, names, move_levels(words, is_up, count));
+    tell_done(out, names, move_levels(words, is_up, count))
 }
 
 // How far two levels are apart.
@@ -82,13 +110,11 @@ fn distance(a: u32, b: u32) -> u32 {
 
 // So many levels up or down.
 fn move_levels(words: &mut [u32], is_up: bool, count: u32) -> Reply {
-    let mut left = count;
-    while 0 < left {
+    for _ in 0..count {
         match moved(words, is_up) {
             Reply::Done => {}
             Reply::Refused(r) => return Reply::Refused(r),
         }
-        left -= 1;
     }
     Reply::Done
 }

@@ -9,96 +9,122 @@ use script::text::{Number, Word, bytes_of, count_words, next_word, number_in};
 use script::verbs;
 use script::wrong::{NO_REGION, wrong_after, wrong_count};
 use script_names::answers::{tell_number, tell_refusal};
+use std::io;
+use std::io::Write;
 use table_words::word;
 use told_in_words::REGIONS;
 
 // `entry N`: an entry, as a dump shows it.
-pub fn tell_entry(fd: i32, text: &[u8], desk: &[u32; 10256], names: &[u8], words: &[u32], n: u32) {
+pub fn tell_entry<W: Write>(
+    out: &mut W,
+    text: &[u8],
+    desk: &[u32; 10256],
+    names: &[u8],
+    words: &[u32],
+    n: u32,
+) -> io::Result<()> {
     match sheafwinch::entry(words, n) {
-        EntryRead::Entry(_) => shown::tell_entry(fd, text, desk, names, words, n),
-        EntryRead::Refused(r) => tell_refusal(fd, names, r),
+        EntryRead::Entry(_) => shown::tell_entry(out, text, desk, names, words, n),
+        EntryRead::Refused(r) => tell_refusal(out, names, r),
     }
 }
 
 // `record REGION N`: a record as it stands.
-pub fn tell_record(
-    fd: i32,
+pub fn tell_record<W: Write>(
+    out: &mut W,
     text: &[u8],
     desk: &mut [u32; 10256],
     names: &[u8],
     words: &[u32],
     verb: Word,
-) {
+) -> io::Result<()> {
     let got = count_words(text, verb.end);
     if got != 2 {
-        return wrong_count(fd, desk, verbs::RECORD, got);
+        return wrong_count(out, desk, verbs::RECORD, got);
     }
     let word = next_word(text, verb.end);
-    let Arg::Number(region) = read_region(fd, desk, text, word) else {
-        return;
+    let Arg::Number(region) = read_region(out, desk, text, word)? else {
+        return Ok(());
     };
-    let Arg::Number(n) = read(fd, desk, text, next_word(text, word.end)) else {
-        return;
+    let Arg::Number(n) = read(out, desk, text, next_word(text, word.end))? else {
+        return Ok(());
     };
-    print_record(fd, names, words, region, n);
+    print_record(out, names, words, region, n)
 }
 
 // A record of a region.
-fn print_record(fd: i32, names: &[u8], words: &[u32], region: u32, n: u32) {
-    records::tell_record(fd, names, region, n, sheafwinch::record(words, region, n));
+fn print_record<W: Write>(
+    out: &mut W,
+    names: &[u8],
+    words: &[u32],
+    region: u32,
+    n: u32,
+) -> io::Result<()> {
+    records::tell_record(out, names, region, n, sheafwinch::record(words, region, n))
 }
 
 // A region, by its name or its number.
-fn read_region(fd: i32, desk: &mut [u32; 10256], text: &[u8], word: Word) -> Arg {
+fn read_region<W: Write>(
+    out: &mut W,
+    desk: &mut [u32; 10256],
+    text: &[u8],
+    word: Word,
+) -> io::Result<Arg> {
     let index = index_of(&REGIONS, bytes_of(text, word));
     if index < image::format::EQUALS {
-        return Arg::Number(index + 1);
+        return Ok(Arg::Number(index + 1));
     }
     match number_in(bytes_of(text, word)) {
-        Number::Value(n) => Arg::Number(n),
+        Number::Value(n) => Ok(Arg::Number(n)),
         _ => {
-            wrong_after(fd, desk, NO_REGION, bytes_of(text, word));
-            Arg::Wrong
+            wrong_after(out, desk, NO_REGION, bytes_of(text, word))?;
+            Ok(Arg::Wrong)
         }
     }
 }
 
 // `disjoint A B`
-pub fn tell_disjoint(fd: i32, names: &[u8], words: &[u32], left: u32, right: u32) {
+pub fn tell_disjoint<W: Write>(
+    out: &mut W,
+    names: &[u8],
+    words: &[u32],
+    left: u32,
+    right: u32,
+) -> io::Result<()> {
     match sheafwinch::disjoint(words, left, right) {
-        Disjointness::Disjoint => tell_number(fd, b"disjoint", 1),
-        Disjointness::NotDisjoint => tell_number(fd, b"disjoint", 0),
-        Disjointness::Refused(r) => tell_refusal(fd, names, r),
+        Disjointness::Disjoint => tell_number(out, b"disjoint", 1),
+        Disjointness::NotDisjoint => tell_number(out, b"disjoint", 0),
+        Disjointness::Refused(r) => tell_refusal(out, names, r),
     }
 }
 
 // `check`
-pub fn tell_check(fd: i32, words: &[u32]) {
+pub fn tell_check<W: Write>(out: &mut W, words: &[u32]) -> io::Result<()> {
     if formed::check(words) {
-        write(fd, b"well formed\n");
+        write(out, b"well formed\n")
     } else {
-        write(fd, b"not well formed\n");
+        write(out, b"not well formed\n")
     }
 }
 
 // `op OP L R`: the result, what is known from the left, what is bound at once.
-pub fn tell_operator(fd: i32, op: u32, left: u32, right: u32) {
+pub fn tell_operator<W: Write>(out: &mut W, op: u32, left: u32, right: u32) -> io::Result<()> {
     match operators::resolve(op, left, right) {
-        Resolved::Refused(r) => tell_refusal(fd, b"", r),
+        Resolved::Refused(r) => tell_refusal(out, b"", r),
         resolved => {
-            write(fd, b"op");
-            print_resolved(fd, resolved);
-            print_resolved(fd, operators::from_left(op, left));
-            print_resolved(fd, operators::at_once(op));
-            write(fd, b"\n");
+            write(out, b"op")?;
+            print_resolved(out, resolved)?;
+            print_resolved(out, operators::from_left(op, left))?;
+            print_resolved(out, operators::at_once(op))?;
+            write(out, b"\n")
         }
     }
 }
 
 // A primitive, -1 where there is none.
-fn print_resolved(fd: i32, r: Resolved) {
+fn print_resolved<W: Write>(out: &mut W, r: Resolved) -> io::Result<()> {
     match r {
-        Resolved::Primitive(p) => print_next(fd, p),
-        _ => write(fd, b" -1"),
+        Resolved::Primitive(p) => print_next(out, p),
+        _ => write(out, b" -1"),
     }
 }

@@ -5,36 +5,38 @@ use script::desk::{GIVEN, LABELS, LIST, TABLE_GIVEN, WORDS};
 use script::text::{narrow, part};
 use script_names::answers::{tell_number, tell_refusal};
 use script_names::name_lists::{LIST_MOST, capacities, count_of, functor_of, make_list};
+use std::io;
+use std::io::Write;
 use table_words::{is_small, largest, size_of, wide};
 
 // `new`: starts the largest table; nothing is told when it is done.
-pub fn start_largest(
-    fd: i32,
+pub fn start_largest<W: Write>(
+    out: &mut W,
     script: &[u8],
     desk: &mut [u32; 10256],
     list: &mut [u8; LIST_MOST],
     words: &mut [u32],
     next: usize,
-) {
+) -> io::Result<()> {
     match start_table(script, desk, list, words, next, largest()) {
-        Reply::Done => {}
-        Reply::Refused(r) => tell_refusal(fd, b"", r),
+        Reply::Done => Ok(()),
+        Reply::Refused(r) => tell_refusal(out, b"", r),
     }
 }
 
 // `start E F B V P Q`: starts a table of these capacities, and tells how many words it has.
-pub fn start(
-    fd: i32,
+pub fn start<W: Write>(
+    out: &mut W,
     script: &[u8],
     desk: &mut [u32; 10256],
     list: &mut [u8; LIST_MOST],
     words: &mut [u32],
     next: usize,
     args: &[u32; 6],
-) {
+) -> io::Result<()> {
     match start_table(script, desk, list, words, next, capacities(args)) {
-        Reply::Done => tell_number(fd, b"started words", desk[WORDS]),
-        Reply::Refused(r) => tell_refusal(fd, b"", r),
+        Reply::Done => tell_number(out, b"started words", desk[WORDS]),
+        Reply::Refused(r) => tell_refusal(out, b"", r),
     }
 }
 
@@ -47,8 +49,8 @@ fn start_table(
     next: usize,
     c: Capacities,
 ) -> Reply {
-    let size = size_of(c);
-    if !is_small(c) {
+    let size = size_of(again(&c));
+    if !is_small(again(&c)) {
         return refuse(words, c);
     }
     if words.len() < size {
@@ -57,6 +59,18 @@ fn start_table(
     let bytes = make_list(script, desk, list, next);
     keep_start(desk, bytes, size);
     start_in(part(list, 0, wide(bytes)), &mut words[0..size], c)
+}
+
+// The same capacities once more.
+fn again(c: &Capacities) -> Capacities {
+    Capacities {
+        entries: c.entries,
+        fields: c.fields,
+        bounds: c.bounds,
+        visited: c.visited,
+        pending: c.pending,
+        equals: c.equals,
+    }
 }
 
 // Why a table of these capacities is not started.
