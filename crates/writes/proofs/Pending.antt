@@ -42,6 +42,18 @@ module _ {state : ℕ} {w : List ℕ} {t : Table} (s : ShowsAs state w t) where
   unfolding words_as image front_as
   state_put new e = record { within = s.within; is = ap (λ (v : List ℕ). set v state_at new) s.is ∙ ap (λ (k : ℕ). words_as k t) (sym e) }
 
+module _ (w : List ℕ) (s : ShownAs asked w) where
+  -- a question with nothing pending is ended; any other stays
+  pub ended : count w pending_region ≡ 0 → Shows (set w state_at idle) (table w)
+  ended e =
+      let f = facts s in
+      state_put s idle (state_idle _ (omega (arith, e)))
+
+  pub not_ended : (count w pending_region ≡ 0 → ⊥) → Shown w
+  not_ended n =
+      let f = facts s in
+      state_right s (state_asked _ (omega (arith, n)))
+
 -- a question opened or ended: the table shown is the one that stood there
 pub stated : {state : ℕ} {v w : List ℕ} {t : Table} → ShowsAs state v t → Shows w (table v) → Shows w t
 stated {w = w} a s = subst (λ (u : Table). Shows w u) (seen a) s

@@ -255,6 +255,7 @@ fn clear_pending(image: &mut [u32])
 }
 
 // Ends the question, if nothing is pending.
+#[tactic(auto, using(crate::proofs::Pending::ended, crate::proofs::Pending::not_ended))]
 pub fn end_if_done(image: &mut [u32])
     requires { ShownAs asked image.old }
     ensures { Shows image.new (table image.old) }
