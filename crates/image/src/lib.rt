@@ -20,7 +20,7 @@ ghost use Rattle.image.specs.Records.{field_at, bound_at, visited_at, pending_at
 use model::{Attrset, Dynamic, Entry};
 
 // How many records each region takes.
-#[derive(Drop)]
+#[derive(Clone, Copy)]
 pub struct Capacities {
     pub entries: u32,
     pub fields: u32,
