@@ -1,6 +1,6 @@
 -- `operators::at_once` meets its contract. Assumes nothing.
 use native.Mathlib.Omega.{arith}
-use borrow.Author.Tests.{ne_eqb, le-leb, lt-leb}
+use borrow.Author.Tests.{lt-leb}
 use Rattle.operators.specs.Operators.{bound_at_once, at_once}
 use Rattle.operators.proofs.at_once.Goals as goal
 
