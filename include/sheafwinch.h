@@ -162,7 +162,7 @@ typedef struct sheafwinch_capacities {
 
 /* Bytes of stack that a thread should have when it calls, enough for any call, image and argument; make_neg, open, open_equal and work take
  * most, where an entry's spread is near 1,024. Not proved: tools/stack computes what each call takes at the worst from the frames in the
- * archive (x86-64, as the kit rattle-kit-5b compiles it) and from how deep the spread limit lets a call nest, and runs the worst cases
+ * archive (x86-64, as the kit rattle-kit-13f compiles it) and from how deep the spread limit lets a call nest, and runs the worst cases
  * that we know on a painted stack. The figure is at least one and a half times the worst of both, so that a thread of just this size has
  * room for what the C library takes of it; the gate holds the archive to that, and runs the cases on threads of this size. */
 #define SHEAFWINCH_STACK 131072
