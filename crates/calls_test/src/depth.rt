@@ -34,7 +34,7 @@ pub fn print_lines<W: Write>(out: &mut W) -> io::Result<()> {
 fn print_line<W: Write>(out: &mut W, entries: u32) -> io::Result<()> {
     print_one(out, b"%:", entries)?;
     let mut words = room();
-    fill(out, &mut words, entries)?;
+    fill(out, &mut words, capacities(entries))?;
     print(out, b"\n")
 }
 
@@ -58,13 +58,13 @@ fn capacities(n: u32) -> Capacities {
 }
 
 // Starts the image in as many words as it takes, makes the unions, and then the calls.
-fn fill<W: Write>(out: &mut W, words: &mut [u32], entries: u32) -> io::Result<()> {
-    let size = size_of(capacities(entries));
+fn fill<W: Write>(out: &mut W, words: &mut [u32], c: Capacities) -> io::Result<()> {
+    let size = size_of(c);
     if words.len() < size {
         return Ok(());
     }
     let image = &mut words[0..size];
-    sheafwinch::start(image, 0, 0, capacities(entries));
+    sheafwinch::start(image, 0, 0, c);
     make_unions(image);
     script::run(out, image, FIRST, END)
 }

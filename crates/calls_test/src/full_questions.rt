@@ -69,7 +69,11 @@ fn print_line<W: Write>(
 ) -> io::Result<()> {
     print_four(out, b"% % % %:", bounds, visited, pending, equals)?;
     let mut words = room();
-    fill(out, &mut words, bounds, visited, pending, equals)?;
+    fill(
+        out,
+        &mut words,
+        capacities(bounds, visited, pending, equals),
+    )?;
     print(out, b"\n")
 }
 
@@ -93,23 +97,16 @@ fn capacities(bounds: u32, visited: u32, pending: u32, equals: u32) -> Capacitie
 }
 
 // Runs the script in as many words as the image takes, started afresh where the openings work.
-fn fill<W: Write>(
-    out: &mut W,
-    words: &mut [u32],
-    bounds: u32,
-    visited: u32,
-    pending: u32,
-    equals: u32,
-) -> io::Result<()> {
-    let size = size_of(capacities(bounds, visited, pending, equals));
+fn fill<W: Write>(out: &mut W, words: &mut [u32], c: Capacities) -> io::Result<()> {
+    let size = size_of(c);
     if words.len() < size {
         return Ok(());
     }
     let image = &mut words[0..size];
-    start_afresh(image, capacities(bounds, visited, pending, equals));
+    start_afresh(image, c);
     script::run(out, image, FIRST, WORKED)?;
     print(out, b";")?;
-    start_afresh(image, capacities(bounds, visited, pending, equals));
+    start_afresh(image, c);
     script::run(out, image, WORKED, END)
 }
 

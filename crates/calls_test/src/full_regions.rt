@@ -59,7 +59,7 @@ fn several<W: Write>(out: &mut W) -> io::Result<()> {
 fn print_line<W: Write>(out: &mut W, entries: u32, fields: u32, bounds: u32) -> io::Result<()> {
     print_three(out, b"% % %:", entries, fields, bounds)?;
     let mut words = room();
-    fill(out, &mut words, entries, fields, bounds)?;
+    fill(out, &mut words, capacities(entries, fields, bounds))?;
     print(out, b"\n")
 }
 
@@ -83,18 +83,12 @@ fn capacities(entries: u32, fields: u32, bounds: u32) -> Capacities {
 }
 
 // Starts the image in as many words as it takes, and runs the script.
-fn fill<W: Write>(
-    out: &mut W,
-    words: &mut [u32],
-    entries: u32,
-    fields: u32,
-    bounds: u32,
-) -> io::Result<()> {
-    let size = size_of(capacities(entries, fields, bounds));
+fn fill<W: Write>(out: &mut W, words: &mut [u32], c: Capacities) -> io::Result<()> {
+    let size = size_of(c);
     if words.len() < size {
         return Ok(());
     }
     let image = &mut words[0..size];
-    sheafwinch::start(image, 3, 1, capacities(entries, fields, bounds));
+    sheafwinch::start(image, 3, 1, c);
     script::run(out, image, FIRST, END)
 }

@@ -19,6 +19,7 @@ use script::help::{print_help, print_usage};
 use script::text::part;
 use script_names::name_lists;
 use std::env::{Env, FillError};
+use std::fmt::InlineText;
 use std::io::{Read, Write};
 use std::{fs, io, str};
 
@@ -27,6 +28,9 @@ const SCRIPT_MOST: usize = 1048576;
 
 // As many bytes of an argument are read.
 const ARGUMENT_MOST: usize = 4096;
+
+// An error's text has at most so many bytes: 256, and its number.
+const TEXT_MOST: usize = 288;
 
 // The system's number for a name that is too long.
 const NAME_TOO_LONG: i32 = 36;
@@ -108,11 +112,11 @@ fn fail_long(rt: &HostRuntime, what: &[u8]) -> io::Result<()> {
 
 // Tells why the system refused something.
 fn fail(rt: &HostRuntime, what: &[u8], error: io::Error) -> io::Result<()> {
-    let text = format!(in rt.alloc(); "{error}")?;
+    let text = InlineText::<TEXT_MOST>::of(error);
     let mut err = rt.stderr();
     write(&mut err, b"winch: ")?;
     write(&mut err, what)?;
-    writeln!(err, ": {}", reason(&text))
+    writeln!(err, ": {}", reason(text.as_str()))
 }
 
 // An error's text without its number.
@@ -195,7 +199,7 @@ fn run_script<W: Write>(
 
 // Runs a script; tells how many lines were wrong.
 fn run<W: Write>(rt: &HostRuntime, out: &mut W, script: &[u8], is_drawn: bool) -> io::Result<()> {
-    let mut words = words::room(rt.alloc())?;
+    let mut words = words::room();
     let mut list = name_lists::list_room();
     let mut desk = desk::empty();
     tables::start_largest(out, script, &mut desk, &mut list, &mut words, 0)?;

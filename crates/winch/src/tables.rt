@@ -49,8 +49,8 @@ fn start_table(
     next: usize,
     c: Capacities,
 ) -> Reply {
-    let size = size_of(again(&c));
-    if !is_small(again(&c)) {
+    let size = size_of(c);
+    if !is_small(c) {
         return refuse(words, c);
     }
     if words.len() < size {
@@ -59,18 +59,6 @@ fn start_table(
     let bytes = make_list(script, desk, list, next);
     keep_start(desk, bytes, size);
     start_in(part(list, 0, wide(bytes)), &mut words[0..size], c)
-}
-
-// The same capacities once more.
-fn again(c: &Capacities) -> Capacities {
-    Capacities {
-        entries: c.entries,
-        fields: c.fields,
-        bounds: c.bounds,
-        visited: c.visited,
-        pending: c.pending,
-        equals: c.equals,
-    }
 }
 
 // Why a table of these capacities is not started.
