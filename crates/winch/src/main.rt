@@ -7,7 +7,7 @@ mod attrsets;
 mod incident;
 mod lines;
 mod makes;
-mod reads;
+mod read_verbs;
 mod table_verbs;
 mod tables;
 mod words;

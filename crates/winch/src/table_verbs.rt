@@ -2,7 +2,7 @@
 use crate::asking::{ALL, Question, abandon, open_question, work};
 use crate::attrsets::{attr, named};
 use crate::makes::{go_to_level, make, move_level, put};
-use crate::reads::{tell_check, tell_disjoint, tell_entry, tell_operator, tell_record};
+use crate::read_verbs::{tell_check, tell_disjoint, tell_entry, tell_operator, tell_record};
 use dumps::dump::dump;
 use dumps::header::{tell_count, tell_state};
 use script::args::{Arg, read, read_all};
