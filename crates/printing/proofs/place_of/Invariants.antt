@@ -1,3 +1,4 @@
+-- What the loop of `place_of` keeps, and why it ends.
 use Rattle.std.proofs.Common.{length, ◌-◌, ◌≤◌}
 use Rattle.printing.proofs.place_of.Given as goal
 

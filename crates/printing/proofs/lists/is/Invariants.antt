@@ -1,3 +1,4 @@
+-- What the loop of `is` keeps, and why it ends.
 use Rattle.std.proofs.Common.{length, ◌-◌, ◌≤◌, ◌≡◌}
 use Rattle.printing.proofs.lists.is.Given as goal
 

@@ -1,3 +1,4 @@
+-- What the loop of `start_of` keeps, and why it ends.
 use Rattle.std.proofs.Common.{length, ◌≤◌}
 use Rattle.printing.proofs.lists.start_of.Given as goal
 

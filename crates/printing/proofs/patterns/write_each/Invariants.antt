@@ -1,3 +1,4 @@
+-- What the loop of `write_each` keeps, and why it ends.
 use Rattle.std.proofs.Common.{length, ◌-◌, ◌+◌, ◌≤◌}
 use Rattle.printing.proofs.patterns.write_each.Given as goal
 

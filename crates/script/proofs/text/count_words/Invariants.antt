@@ -1,3 +1,4 @@
+-- What the loop of `count_words` keeps, and why it ends.
 use Rattle.std.proofs.Common.{length, ◌-◌, ◌≤◌}
 use Rattle.script.proofs.text.count_words.Given as goal
 

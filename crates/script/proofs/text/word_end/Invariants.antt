@@ -1,3 +1,4 @@
+-- What the loop of `word_end` keeps, and why it ends.
 use Rattle.std.proofs.Common.{length, ◌-◌, ◌<◌, ◌≤◌}
 use Rattle.script.proofs.text.word_end.Given as goal
 
