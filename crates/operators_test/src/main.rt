@@ -5,85 +5,77 @@
 mod name_list;
 
 use operators::Resolved;
-use printing::{print, print_word};
 use std::io;
 use std::io::Write;
 
-// Where the columns' words have those that are no primitive.
-const NONE: u32 = 8;
+// The operators, by name.
+const OPERATORS: [(u32, &str); 4] = [
+    (operators::ADD, "Add"),
+    (operators::SUB, "Sub"),
+    (operators::MUL, "Mul"),
+    (operators::DIV, "Div"),
+];
 
-const REFUSED: u32 = 9;
+// The primitives, by name.
+const PRIMITIVES: [(u32, &str); 8] = [
+    (operators::NULL, "Null"),
+    (operators::BOOL, "Bool"),
+    (operators::INT, "Int"),
+    (operators::FLOAT, "Float"),
+    (operators::STRING, "String"),
+    (operators::PATH, "Path"),
+    (operators::URI, "Uri"),
+    (operators::NUMBER, "Number"),
+];
 
 fn main(rt: HostRuntime) -> io::Result<()> {
     let mut out = rt.stdout();
-    print(
-        &mut out,
-        b"The operators: a row for each left primitive, a column for each right one.
-alone: known from the left alone; once: bound at once; -: none.
-",
+    writeln!(
+        out,
+        "The operators: a row for each left primitive, a column for each right one.
+alone: known from the left alone; once: bound at once; -: none."
     )?;
-    print_operators(&mut out)?;
+    for (op, name) in OPERATORS {
+        print_operator(&mut out, op, name)?;
+    }
     name_list::print_lists(&mut out)
 }
 
-// Each operator.
-fn print_operators<W: Write>(out: &mut W) -> io::Result<()> {
-    for op in operators::ADD..=operators::DIV {
-        print_operator(out, op)?;
-    }
-    Ok(())
-}
-
 // An operator's table, under its name.
-fn print_operator<W: Write>(out: &mut W, op: u32) -> io::Result<()> {
-    print_word(out, b"\n     Add|\n     Sub|\n     Mul|\n     Div", op)?;
-    print(
-        out,
-        b"    Null    Bool     Int   Float  String    Path     Uri  Number  |   alone    once\n",
-    )?;
-    print_rows(out, op)
-}
-
-// A row for each left primitive.
-fn print_rows<W: Write>(out: &mut W, op: u32) -> io::Result<()> {
-    for left in operators::NULL..=operators::NUMBER {
+fn print_operator<W: Write>(out: &mut W, op: u32, name: &str) -> io::Result<()> {
+    write!(out, "\n{name:>8}")?;
+    for (_, right) in PRIMITIVES {
+        write!(out, "{right:>8}")?;
+    }
+    writeln!(out, "  |   alone    once")?;
+    for (left, name) in PRIMITIVES {
+        write!(out, "{name:>8}")?;
         print_row(out, op, left)?;
     }
     Ok(())
 }
 
-// A left primitive, the result with each right one, and what needs no right one.
+// The result of a left primitive with each right one, and what needs no right one.
 fn print_row<W: Write>(out: &mut W, op: u32, left: u32) -> io::Result<()> {
-    print_column(out, left)?;
-    print_results(out, op, left)?;
-    print(out, b"  |")?;
-    print_resolved(out, operators::from_left(op, left))?;
-    print_resolved(out, operators::at_once(op))?;
-    print(out, b"\n")
-}
-
-// The result with each right primitive.
-fn print_results<W: Write>(out: &mut W, op: u32, left: u32) -> io::Result<()> {
-    for right in operators::NULL..=operators::NUMBER {
-        print_resolved(out, operators::resolve(op, left, right))?;
+    for (right, _) in PRIMITIVES {
+        write!(out, "{:>8}", told(operators::resolve(op, left, right)))?;
     }
-    Ok(())
-}
-
-// An answer.
-fn print_resolved<W: Write>(out: &mut W, r: Resolved) -> io::Result<()> {
-    match r {
-        Resolved::Primitive(p) => print_column(out, p),
-        Resolved::None => print_column(out, NONE),
-        Resolved::Refused(_) => print_column(out, REFUSED),
-    }
-}
-
-// A primitive's name, or that there is none, eight columns wide.
-fn print_column<W: Write>(out: &mut W, n: u32) -> io::Result<()> {
-    print_word(
+    writeln!(
         out,
-        b"    Null|    Bool|     Int|   Float|  String|    Path|     Uri|  Number|       -| refused",
-        n,
+        "  |{:>8}{:>8}",
+        told(operators::from_left(op, left)),
+        told(operators::at_once(op))
     )
+}
+
+// An answer: a primitive's name, or that there is none.
+fn told(answer: Resolved) -> &'static str {
+    match answer {
+        Resolved::Primitive(p) => PRIMITIVES
+            .iter()
+            .find(|(n, _)| *n == p)
+            .map_or("ANOTHER", |(_, name)| *name),
+        Resolved::None => "-",
+        Resolved::Refused(_) => "refused",
+    }
 }
