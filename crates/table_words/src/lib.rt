@@ -1,15 +1,21 @@
-// The words of a table, for the programs: they are read as they stand, since the table is the program's own and every call leaves it
-// well formed; and how many of them a table has.
+// The words of a table, for the programs: its header and its records, read as they stand, since the table is the program's own and every
+// call leaves it well formed; and how many words a table has.
 
 #![tactic(auto)]
 
-ghost use Rattle.std.specs.Prelude.{◌≡◌, ◌≤◌, length};
+mod records;
+
+ghost use Rattle.std.specs.Prelude.{◌≡◌, ◌≤◌, length, slice_index_or};
 ghost use Rattle.model.specs.Format.{regions, newest};
 
 use image::Capacities;
+use model::Failure;
+pub use records::{Bound, Entry, Equal, Field, Records, Stored, Visited, each};
 
 // A word, or 0 past the last.
-pub fn word(words: &[u32], at: usize) -> u32 {
+pub fn word(words: &[u32], at: usize) -> u32
+    ensures { result ≡ slice_index_or words.now at 0 }
+{
     if at < words.len() { words[at] } else { 0 }
 }
 
@@ -19,6 +25,61 @@ pub fn wide(n: u32) -> usize
     ensures upper_bound { result ≤ 4294967295 }
 {
     n as usize
+}
+
+// A table's header; the failure that it keeps, if it keeps one.
+#[derive(Clone, Copy)]
+pub struct Header {
+    pub is_asked: bool,
+    pub broken: Option<Failure>,
+    pub level: u32,
+    pub names: u32,
+    pub functor: u32,
+    pub counts: Capacities,
+    pub capacities: Capacities,
+}
+
+impl From<&[u32]> for Header {
+    fn from(words: &[u32]) -> Header {
+        Header {
+            is_asked: word(words, image::format::STATE_AT) == image::format::ASKED,
+            broken: broken(words),
+            level: word(words, image::format::LEVEL_AT),
+            names: word(words, image::format::NAMES_AT),
+            functor: word(words, image::format::FUNCTOR_AT),
+            counts: Capacities {
+                entries: word(words, image::format::ENTRIES_COUNT_AT),
+                fields: word(words, image::format::FIELDS_COUNT_AT),
+                bounds: word(words, image::format::BOUNDS_COUNT_AT),
+                visited: word(words, image::format::VISITED_COUNT_AT),
+                pending: word(words, image::format::PENDING_COUNT_AT),
+                equals: word(words, image::format::EQUALS_COUNT_AT),
+            },
+            capacities: Capacities {
+                entries: word(words, image::format::ENTRIES_CAPACITY_AT),
+                fields: word(words, image::format::FIELDS_CAPACITY_AT),
+                bounds: word(words, image::format::BOUNDS_CAPACITY_AT),
+                visited: word(words, image::format::VISITED_CAPACITY_AT),
+                pending: word(words, image::format::PENDING_CAPACITY_AT),
+                equals: word(words, image::format::EQUALS_CAPACITY_AT),
+            },
+        }
+    }
+}
+
+// The failure that the break words keep.
+fn broken(words: &[u32]) -> Option<Failure> {
+    let sub = word(words, image::format::BREAK_SUB_AT);
+    let sup = word(words, image::format::BREAK_SUP_AT);
+    match word(words, image::format::BREAK_KIND_AT) {
+        image::format::UNBROKEN => None,
+        image::format::FIELD_MISSING => Some(Failure::MissingField {
+            sub,
+            sup,
+            name: word(words, image::format::BREAK_NAME_AT),
+        }),
+        _ => Some(Failure::Mismatch { sub, sup }),
+    }
 }
 
 // A word of record n of a region.
@@ -47,27 +108,6 @@ pub fn field_word(words: &[u32], n: u32, which: usize) -> u32
     record_word(words, image::format::IN_FIELDS, n, which)
 }
 
-// A word of a bound.
-pub fn bound_word(words: &[u32], n: u32, which: usize) -> u32
-    requires { which ≤ 7 }
-{
-    record_word(words, image::format::IN_BOUNDS, n, which)
-}
-
-// A word of a visited pair.
-pub fn visited_word(words: &[u32], n: u32, which: usize) -> u32
-    requires { which ≤ 7 }
-{
-    record_word(words, image::format::IN_VISITED, n, which)
-}
-
-// A word of a pair asked equal.
-pub fn equals_word(words: &[u32], n: u32, which: usize) -> u32
-    requires { which ≤ 7 }
-{
-    record_word(words, image::format::IN_EQUALS, n, which)
-}
-
 // How many records each region has.
 pub fn counts(words: &[u32]) -> [u32; 6]
     ensures { 6 ≡ length result }
@@ -80,25 +120,6 @@ pub fn counts(words: &[u32]) -> [u32; 6]
         word(words, image::format::PENDING_COUNT_AT),
         word(words, image::format::EQUALS_COUNT_AT),
     ]
-}
-
-// How many each takes.
-pub fn capacities(words: &[u32]) -> [u32; 6]
-    ensures { 6 ≡ length result }
-{
-    [
-        word(words, image::format::ENTRIES_CAPACITY_AT),
-        word(words, image::format::FIELDS_CAPACITY_AT),
-        word(words, image::format::BOUNDS_CAPACITY_AT),
-        word(words, image::format::VISITED_CAPACITY_AT),
-        word(words, image::format::PENDING_CAPACITY_AT),
-        word(words, image::format::EQUALS_CAPACITY_AT),
-    ]
-}
-
-// How many entries there are.
-pub fn entries(words: &[u32]) -> u32 {
-    word(words, image::format::ENTRIES_COUNT_AT)
 }
 
 // The largest capacities.
