@@ -1,5 +1,6 @@
 -- Answers that differ have words that differ: what is told, and the steps, are found again from the struct. What every call tells has
 -- at most eight values, so none is lost. Assumes nothing.
+use Rattle.std.specs.Prelude.{Err, None, Ok, Option, Result, Some}
 use Prim.Native.Nat.{ℕ, ◌≤◌}
 use native.Mathlib.Omega.{arith}
 use mathlib.Core.Path.{◌≡◌, refl, sym, ap, ◌∙◌}
@@ -13,24 +14,12 @@ use Rattle.model.specs.declared.Carried.{Carried}
 use Rattle.model.specs.declared.Carried.TheVariants as K
 use Rattle.model.specs.declared.Failure.{Failure}
 use Rattle.model.specs.declared.Failure.TheVariants as F
-use Rattle.model.specs.declared.Reply.{Reply}
-use Rattle.model.specs.declared.Reply.TheVariants as Y
-use Rattle.model.specs.declared.Made.{Made}
-use Rattle.model.specs.declared.Made.TheVariants as M
 use Rattle.model.specs.declared.Answer.{Answer as Worked}
 use Rattle.model.specs.declared.Answer.TheVariants as A
-use Rattle.model.specs.declared.Opening.{Opening}
-use Rattle.model.specs.declared.Opening.TheVariants as G
-use Rattle.model.specs.declared.Dynamic.{Dynamic}
-use Rattle.model.specs.declared.Dynamic.TheVariants as D
 use Rattle.model.specs.declared.Entry.{Entry}
 use Rattle.model.specs.declared.Entry.TheVariants as E
-use Rattle.model.specs.declared.EntryRead.{EntryRead}
-use Rattle.model.specs.declared.EntryRead.TheVariants as ER
 use Rattle.model.specs.declared.Record.{Record}
 use Rattle.model.specs.declared.Record.TheVariants as RR
-use Rattle.model.specs.declared.Disjointness.{Disjointness}
-use Rattle.model.specs.declared.Disjointness.TheVariants as J
 use Rattle.names.specs.Answers.{told_counted, told_compared, told_found, told_placed}
 use Rattle.names.specs.declared.Counted.{Counted}
 use Rattle.names.specs.declared.Counted.TheVariants as C
@@ -121,13 +110,13 @@ refusal_in_struct r = carried_fits (carried r)
 pub unopened_in_struct : (r : Refusal) → InStruct (told_unopened r)
 unopened_in_struct r = carried_fits (carried r)
 
-pub reply_in_struct : (r : Reply) → InStruct (told_reply r)
-reply_in_struct Y.Done = omega arith
-reply_in_struct (Y.Refused r) = refusal_in_struct r
+pub reply_in_struct : (r : Result (Unit {0}) Refusal) → InStruct (told_reply r)
+reply_in_struct (Ok tt) = omega arith
+reply_in_struct (Err r) = refusal_in_struct r
 
-pub made_in_struct : (r : Made) → InStruct (told_made r)
-made_in_struct (M.Number n) = omega arith
-made_in_struct (M.Refused r) = refusal_in_struct r
+pub made_in_struct : (r : Result ℕ Refusal) → InStruct (told_made r)
+made_in_struct (Ok n) = omega arith
+made_in_struct (Err r) = refusal_in_struct r
 
 pub failure_in_struct : (f : Failure) → InStruct (told_failure f)
 failure_in_struct (F.Mismatch sub sup) = omega arith
@@ -139,13 +128,13 @@ worked_in_struct A.More = omega arith
 worked_in_struct (A.Failed f) = failure_in_struct f
 worked_in_struct (A.Refused r) = refusal_in_struct r
 
-pub opening_in_struct : (r : Opening) → InStruct (told_opening r)
-opening_in_struct (G.Refused r) = unopened_in_struct r
-opening_in_struct (G.Worked i) = worked_in_struct i.answer
+pub opening_in_struct : (r : Result Instalment Refusal) → InStruct (told_opening r)
+opening_in_struct (Err r) = unopened_in_struct r
+opening_in_struct (Ok i) = worked_in_struct i.answer
 
-pub attrset_in_struct : (first count : ℕ) (is_open : Bool) (d : Dynamic) → InStruct (done (told_attrset first count is_open d))
-attrset_in_struct first count is_open D.Absent = omega arith
-attrset_in_struct first count is_open (D.Present n) = omega arith
+pub attrset_in_struct : (first count : ℕ) (is_open : Bool) (d : Option ℕ) → InStruct (done (told_attrset first count is_open d))
+attrset_in_struct first count is_open None = omega arith
+attrset_in_struct first count is_open (Some n) = omega arith
 
 pub entry_in_struct : (e : Entry) → InStruct (done (told_entry e))
 entry_in_struct (E.Variable level) = omega arith
@@ -158,9 +147,9 @@ entry_in_struct (E.Neg inner) = omega arith
 entry_in_struct (E.Inter left right) = omega arith
 entry_in_struct (E.Union left right) = omega arith
 
-pub entry_read_in_struct : (r : EntryRead) → InStruct (told_entry_read r)
-entry_read_in_struct (ER.Entry e) = entry_in_struct e
-entry_read_in_struct (ER.Refused r) = refusal_in_struct r
+pub entry_read_in_struct : (r : Result Entry Refusal) → InStruct (told_entry_read r)
+entry_read_in_struct (Ok e) = entry_in_struct e
+entry_read_in_struct (Err r) = refusal_in_struct r
 
 pub record_in_struct : (r : Record) → InStruct (told_record r)
 record_in_struct (RR.Entry kind x y z flags spread negation) = omega arith
@@ -171,10 +160,10 @@ record_in_struct (RR.Pending sub sup) = omega arith
 record_in_struct (RR.Equal left right) = omega arith
 record_in_struct (RR.Refused r) = refusal_in_struct r
 
-pub disjointness_in_struct : (r : Disjointness) → InStruct (told_disjointness r)
-disjointness_in_struct J.Disjoint = omega arith
-disjointness_in_struct J.NotDisjoint = omega arith
-disjointness_in_struct (J.Refused r) = refusal_in_struct r
+pub disjointness_in_struct : (r : Result Bool Refusal) → InStruct (told_disjointness r)
+disjointness_in_struct (Ok true) = omega arith
+disjointness_in_struct (Ok false) = omega arith
+disjointness_in_struct (Err r) = refusal_in_struct r
 
 pub counted_in_struct : (r : Counted) → InStruct (told_counted r)
 counted_in_struct (C.Count n) = omega arith

@@ -1,11 +1,9 @@
 -- What a C caller gets: each answer as the words of one struct; and what the words mean that C gives for a flag and a dynamic type.
 -- proofs/OneToOne.antt shows that answers that differ have words that differ. Assumes nothing.
-use Rattle.std.specs.Prelude.{ℕ, List, [], Bool, not, cond, length, get_or}
+use Rattle.std.specs.Prelude.{ℕ, List, [], Bool, not, cond, length, get_or, None, Option, Some}
 use Rattle.model.specs.Lists.{is_zero}
 use Rattle.model.specs.Told.{Told, done, yes, more, failed, refused, unopened}
 use Rattle.model.specs.Table as T
-use Rattle.model.specs.declared.Dynamic.{Dynamic}
-use Rattle.model.specs.declared.Dynamic.TheVariants.{Absent, Present}
 use Rattle.capi.specs.declared.Answer.{Answer}
 use Rattle.capi.specs.declared.Capacities.{Capacities}
 
@@ -40,8 +38,8 @@ abbrev pub flag_of : ℕ → Bool
 flag_of n = not (is_zero n)
 
 -- a dynamic type: whether there is one, and its number, which counts for nothing where there is none
-abbrev pub dynamic_of : ℕ → ℕ → Dynamic
-dynamic_of has n = cond (flag_of has) (Present n) Absent
+abbrev pub dynamic_of : ℕ → ℕ → Option ℕ
+dynamic_of has n = cond (flag_of has) (Some n) None
 
 -- capacities as they are handed over
 abbrev pub capacities_of : Capacities → T.Capacities

@@ -1,4 +1,5 @@
 -- Making an attrset, by its tests: the field list, its entries, the dynamic type. Assumes nothing.
+use Rattle.std.specs.Prelude.{Option}
 use Prim.Native.Nat.{ℕ}
 use mathlib.Core.Path.{◌≡◌, sym, ap, ◌∙◌}
 use mathlib.Core.List.{List}
@@ -11,7 +12,6 @@ use Rattle.model.specs.Image.{table}
 use Rattle.model.specs.Formed.{is_entry}
 use Rattle.model.specs.Calls.{response_of, field_list, fields_listed, dynamic_known, attrset_turn}
 use Rattle.model.specs.Told.{Told, told_refusal}
-use Rattle.model.specs.declared.Dynamic.{Dynamic}
 use Rattle.model.specs.declared.Refusal.TheVariants.{BadNumber, BadFields}
 use Rattle.image.specs.Shown.{store_of, entries_of}
 use Rattle.type_table.specs.Made.{attrset_response}
@@ -25,7 +25,7 @@ entries_known : (es : List Entry) (l : List ℕ) (n : ℕ) (b : Bool) → n ≡ 
 unfolding is_entry
 entries_known es l n b e h = ap (λ (m : ℕ). fields_below m l) (sym e) ∙ h
 
-module _ (w l : List ℕ) (wide : Bool) (d : Dynamic) (free : is_asked (table w) ≡ false) (names : ℕ) (e : names ≡ (store_of w).names) where
+module _ (w l : List ℕ) (wide : Bool) (d : Option ℕ) (free : is_asked (table w) ≡ false) (names : ℕ) (e : names ≡ (store_of w).names) where
   pub bad_fields : fields_listed names l ≡ false → Replies (told_refusal BadFields) w (response_of w (attrset_turn l wide d (table w)))
   unfolding attrset_turn
   bad_fields h = idle w _ free (stopped w BadFields _ (fields_listed (store_of w).names l) (rw e at h))

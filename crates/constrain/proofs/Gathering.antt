@@ -1,4 +1,5 @@
 -- What sup's fields ask, one after the other, and that the two passes are the model's attrset rule. Assumes nothing.
+use Rattle.std.specs.Prelude.{None, Some}
 use Prim.Native.Nat.{ℕ, suc, ◌+◌, ◌≤◌, ◌<◌}
 use native.Mathlib.Omega.{arith}
 use mathlib.Core.Path.{◌≡◌, refl, sym, ap, ◌∙◌}
@@ -16,15 +17,11 @@ use Rattle.model.specs.Shapes.{fields_of, field_named}
 use Rattle.model.specs.Rules.{mismatch, Gathered, gathered, lacking, before, gather_one, gather, dynamics, gathered_effect, attrsets}
 use Rattle.model.specs.Calls.{read_out, dynamic_of}
 use Rattle.model.specs.declared.Attrset.{Attrset}
-use Rattle.model.specs.declared.Dynamic.{Dynamic}
-use Rattle.model.specs.declared.Dynamic.TheVariants.{Absent, Present}
 use Rattle.model.specs.declared.Entry.{Entry as EntryOut}
 use Rattle.model.specs.declared.Entry.TheVariants as E
 use Rattle.model.specs.contracts.Entry.{the_type}
 use Rattle.laws.specs.Good.{Good}
 use Rattle.image.specs.Records.{field_at}
-use Rattle.disjoint.specs.declared.FieldFound.{FieldFound}
-use Rattle.disjoint.specs.declared.FieldFound.TheVariants.{At, Nothing}
 use Rattle.disjoint.specs.Fields.{Inside, fields_held, number_named}
 use Rattle.disjoint.proofs.Fields.{rest, next, none_left, whole}
 use Rattle.disjoint.proofs.Finding.{named_found, named_nothing}
@@ -38,31 +35,31 @@ use Rattle.constrain.specs.Fields.{ask_dynamic, ask_by, ask_of, add_asked, pairs
 use Rattle.constrain.specs.Next.{effect_of, Applicable, Comes}
 
 -- a field that no field of its name answers
-module _ (d : Dynamic) (o : Bool) (f : Field) where
-  pub ask_present : {n : ℕ} → d ≡ Present n → A.Under n ≡ ask_dynamic d o f
+module _ (d : Option ℕ) (o : Bool) (f : Field) where
+  pub ask_present : {n : ℕ} → d ≡ Some n → A.Under n ≡ ask_dynamic d o f
   ask_present q = rw q
 
-  pub ask_open : d ≡ Absent → o ≡ true → A.Nothing ≡ ask_dynamic d o f
+  pub ask_open : d ≡ None → o ≡ true → A.Nothing ≡ ask_dynamic d o f
   ask_open q p = rw (q, p)
 
-  pub ask_required : d ≡ Absent → o ≡ false → f.optional ≡ 0 → A.Missing ≡ ask_dynamic d o f
+  pub ask_required : d ≡ None → o ≡ false → f.optional ≡ 0 → A.Missing ≡ ask_dynamic d o f
   ask_required q p z = rw (q, p, eq-eqb _ _ z)
 
-  pub ask_optional : d ≡ Absent → o ≡ false → (f.optional ≡ 0 → ⊥) → A.Nothing ≡ ask_dynamic d o f
+  pub ask_optional : d ≡ None → o ≡ false → (f.optional ≡ 0 → ⊥) → A.Nothing ≡ ask_dynamic d o f
   ask_optional q p z = rw (q, p, ne_eqb _ _ z)
 
 -- the search by the name that was read
-pub named_by : (fs : List Field) (a : Attrset) {name n : ℕ} {r o : FieldFound} → n ≡ name → r ≡ number_named fs a.first a.count n → r ≡ o
+pub named_by : (fs : List Field) (a : Attrset) {name n : ℕ} {r o : (Option ℕ)} → n ≡ name → r ≡ number_named fs a.first a.count n → r ≡ o
     → number_named fs a.first a.count name ≡ o
 named_by fs a p q e = sym (rw p at q) ∙ e
 
 -- any field
 module _ (fs : List Field) (a : Attrset) (h : Inside fs a) (f : Field) where
-  pub ask_found : {i : ℕ} → number_named fs a.first a.count f.name ≡ At i → A.Under (field_at fs i).entry ≡ ask_of a (fields_held fs a) f
+  pub ask_found : {i : ℕ} → number_named fs a.first a.count f.name ≡ Some i → A.Under (field_at fs i).entry ≡ ask_of a (fields_held fs a) f
   unfolding ask_of
   ask_found q = rw (named_found fs a.first a.count f.name h q)
 
-  pub ask_nothing : number_named fs a.first a.count f.name ≡ Nothing
+  pub ask_nothing : number_named fs a.first a.count f.name ≡ None
       → ask_dynamic a.dynamic a.is_open f ≡ ask_of a (fields_held fs a) f
   unfolding ask_of
   ask_nothing q = rw (named_nothing fs a.first a.count f.name h q)
@@ -145,7 +142,7 @@ module _ (f : Field) (g : Gathered) where
   lacking_by false = refl
 
   one_by : (t o : Bool) (z : ℕ)
-      → cond t (before (z ⊑ f.entry) g) (cond (not o && is_zero f.optional) (lacking f.name) g) ≡ by_ask (ask_dynamic (cond t (Present z) Absent) o f) f g
+      → cond t (before (z ⊑ f.entry) g) (cond (not o && is_zero f.optional) (lacking f.name) g) ≡ by_ask (ask_dynamic (cond t (Some z) None) o f) f g
   one_by true o z = refl
   one_by false o z = lacking_by (not o && is_zero f.optional)
 
@@ -175,7 +172,7 @@ gather_told e have last (f ∷ fs) =
     ∙ ap (by_ask (ask_of (attrset_of e) have f) f) (gather_told e have last fs)
     ∙ told_by (ask_of (attrset_of e) have f) f (first_missing (attrset_of e) have fs) (pairs_asked (attrset_of e) have fs) last
 
-dynamics_by : (t u : Bool) (x y : ℕ) → cond (t && u) ((x ⊑ y) ∷ []) [] ≡ dynamic_pairs (cond t (Present x) Absent) (cond u (Present y) Absent)
+dynamics_by : (t u : Bool) (x y : ℕ) → cond (t && u) ((x ⊑ y) ∷ []) [] ≡ dynamic_pairs (cond t (Some x) None) (cond u (Some y) None)
 dynamics_by true true x y = refl
 dynamics_by true false x y = refl
 dynamics_by false u x y = refl

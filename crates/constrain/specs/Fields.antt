@@ -1,12 +1,10 @@
 -- The attrset rule in two passes: what each of sup's fields asks, the first that is missing, and the pairs. Assumes nothing.
-use Rattle.std.specs.Prelude.{ℕ, List, [], ◌∷◌, ◌++◌, Bool, not, cond, ◌&&◌, length}
+use Rattle.std.specs.Prelude.{ℕ, List, [], ◌∷◌, ◌++◌, Bool, not, cond, ◌&&◌, length, None, Some}
 use Rattle.std.proofs.Math.Option.{Option, none, some}
 use Rattle.model.specs.Lists.{is_zero}
 use Rattle.model.specs.Table.{Field, Pair, ◌⊑◌}
 use Rattle.model.specs.Shapes.{field_named}
 use Rattle.model.specs.declared.Attrset.{Attrset}
-use Rattle.model.specs.declared.Dynamic.{Dynamic}
-use Rattle.model.specs.declared.Dynamic.TheVariants.{Absent, Present}
 use Rattle.disjoint.specs.Fields.{fields_held}
 use Rattle.constrain.specs.declared.FieldAsk.{FieldAsk}
 use Rattle.constrain.specs.declared.FieldAsk.TheVariants as A
@@ -15,9 +13,9 @@ use Rattle.constrain.specs.declared.Next.TheVariants.{Missing, Follow}
 use Rattle.constrain.specs.declared.Pairs.TheVariants.{Fields}
 
 -- "same field, a pair; else sub's dynamic type, a pair; else missing field if sub is closed and sup's field is not optional"
-abbrev pub ask_dynamic : Dynamic → Bool → Field → FieldAsk
-ask_dynamic (Present n) is_open f = A.Under n
-ask_dynamic Absent is_open f = cond (not is_open && is_zero f.optional) A.Missing A.Nothing
+abbrev pub ask_dynamic : Option ℕ → Bool → Field → FieldAsk
+ask_dynamic (Some n) is_open f = A.Under n
+ask_dynamic None is_open f = cond (not is_open && is_zero f.optional) A.Missing A.Nothing
 
 abbrev pub ask_by : Attrset → Field → Option Field → FieldAsk
 ask_by a f (some g) = A.Under g.entry
@@ -37,12 +35,12 @@ pairs_asked a have [] = []
 pairs_asked a have (f ∷ fs) = add_asked (ask_of a have f) f (pairs_asked a have fs)
 
 -- "Then the pair of dynamic types if both have one."
-abbrev pub dynamic_pairs : Dynamic → Dynamic → List Pair
-dynamic_pairs Absent e = []
-dynamic_pairs (Present m) Absent = []
-dynamic_pairs (Present m) (Present n) = (m ⊑ n) ∷ []
+abbrev pub dynamic_pairs : Option ℕ → Option ℕ → List Pair
+dynamic_pairs None e = []
+dynamic_pairs (Some m) None = []
+dynamic_pairs (Some m) (Some n) = (m ⊑ n) ∷ []
 
-abbrev pub both_dynamic : Dynamic → Dynamic → ℕ
+abbrev pub both_dynamic : Option ℕ → Option ℕ → ℕ
 both_dynamic d e = length (dynamic_pairs d e)
 
 unfoldable pub field_pairs : List Field → Attrset → Attrset → List Pair

@@ -1,4 +1,5 @@
 -- Field records one after the other, and the field that a name finds. Assumes nothing.
+use Rattle.std.specs.Prelude.{None, Some}
 use Prim.Native.Nat.{ℕ, zero, suc, ◌+◌, ◌-◌, ◌≤◌, ◌<◌}
 use native.Mathlib.Omega.{arith}
 use native.Mathlib.Numerals.{add-one}
@@ -18,8 +19,6 @@ use Rattle.image.specs.Laid.{Laid}
 use Rattle.image.specs.Shown.{fields_in}
 use Rattle.image.specs.Records.{field_at}
 use Rattle.image.proofs.Reading.{fields_count}
-use Rattle.disjoint.specs.declared.FieldFound.{FieldFound}
-use Rattle.disjoint.specs.declared.FieldFound.TheVariants.{At, Nothing}
 use Rattle.disjoint.specs.Fields.{found_from, number_named, functor_number, functor_record, is_found, field_found, FoundInside}
 
 -- there are few of them
@@ -43,7 +42,7 @@ whole fs i n = let h : (i + n) - i ≡ n = omega arith in rw h
 
 -- the search by name
 module _ (fs : List Field) (i e name : ℕ) where
-  pub hit : i < e → e ≤ length fs → (field_at fs i).name ≡ name → found_from i (rest fs i e) name ≡ At i
+  pub hit : i < e → e ≤ length fs → (field_at fs i).name ≡ name → found_from i (rest fs i e) name ≡ Some i
   unfolding found_from
   hit h l q = rw (next fs i e h l, eq-eqb _ _ q)
 
@@ -51,7 +50,7 @@ module _ (fs : List Field) (i e name : ℕ) where
   unfolding found_from
   skip h l n = rw (next fs i e h l, ne_eqb _ _ n, add-one i)
 
-  pub gone : e ≤ i → found_from i (rest fs i e) name ≡ Nothing
+  pub gone : e ≤ i → found_from i (rest fs i e) name ≡ None
   unfolding found_from
   gone h = rw (none_left fs i e h)
 
@@ -61,7 +60,7 @@ from_first fs i n name = ap (λ (l : List Field). found_from i l name) (whole fs
 
 -- the number found is that of the model's field
 module _ (fs : List Field) where
-  pick : (b : Bool) (i : ℕ) (r : FieldFound) (o : Option Field) → field_found fs r ≡ o → field_found fs (cond b (At i) r) ≡ cond b (some (field_at fs i)) o
+  pick : (b : Bool) (i : ℕ) (r : Option ℕ) (o : Option Field) → field_found fs r ≡ o → field_found fs (cond b (Some i) r) ≡ cond b (some (field_at fs i)) o
   pick true i r o h = refl
   pick false i r o h = h
 
@@ -72,7 +71,7 @@ module _ (fs : List Field) where
       rw (drop-cons fs i (record { name = 0; entry = 0; optional = 0 }) (omega arith))
       (pick (eqb (field_at fs i).name name) i _ _ (found_is n (suc i) name (omega arith)))
 
-  pick_inside : (b : Bool) (i : ℕ) (r : FieldFound) → i < length fs → FoundInside fs r → FoundInside fs (cond b (At i) r)
+  pick_inside : (b : Bool) (i : ℕ) (r : Option ℕ) → i < length fs → FoundInside fs r → FoundInside fs (cond b (Some i) r)
   pick_inside true i r h k = h
   pick_inside false i r h k = k
 
@@ -91,10 +90,10 @@ module _ (fs : List Field) where
   unfolding number_named
   named_inside first count name h = found_inside count first name h
 
-  found_some : (r : FieldFound) → is_some (field_found fs r) ≡ is_found r
+  found_some : (r : Option ℕ) → is_some (field_found fs r) ≡ is_found r
   unfolding is_some
-  found_some (At i) = refl
-  found_some Nothing = refl
+  found_some (Some i) = refl
+  found_some None = refl
 
   pub named_some : (first count name : ℕ) → first + count ≤ length fs → is_some (field_named (take count (drop first fs)) name) ≡ is_found (number_named fs first count name)
   named_some first count name h = ap is_some (sym (named_is first count name h)) ∙ found_some (number_named fs first count name)
@@ -119,7 +118,7 @@ numbered fs first count zero n = absurd (n refl)
 numbered fs first count (suc name) n = let q : suc name - 1 ≡ name = omega arith in rw q
 
 module _ (fs : List Field) (first count r word : ℕ) (read : r ≡ word) where
-  pub unset : r ≡ 0 → Nothing ≡ functor_number fs first count word
+  pub unset : r ≡ 0 → None ≡ functor_number fs first count word
   unfolding functor_number
   unset q = rw (sym read ∙ q)
 
@@ -129,12 +128,12 @@ module _ (fs : List Field) (first count r word : ℕ) (read : r ≡ word) where
 -- the functor of an entry whose fields, if it is an attrset, are there
 module _ (g : Graph) (e : Entry) (h : e.kind ≡ attrset → e.x + e.y ≤ length g.fields) where
   by_functor : (b : Bool) → (b ≡ true → e.x + e.y ≤ length g.fields)
-      → field_found g.fields (cond b (functor_number g.fields e.x e.y g.functor) Nothing) ≡ cond b (functor_in (fields_of g.fields e) g.functor) none
+      → field_found g.fields (cond b (functor_number g.fields e.x e.y g.functor) None) ≡ cond b (functor_in (fields_of g.fields e) g.functor) none
   unfolding fields_of
   by_functor true k = functor_number_lem g.fields e.x e.y g.functor (k refl)
   by_functor false k = refl
 
-  by_inside : (b : Bool) → (b ≡ true → e.x + e.y ≤ length g.fields) → FoundInside g.fields (cond b (functor_number g.fields e.x e.y g.functor) Nothing)
+  by_inside : (b : Bool) → (b ≡ true → e.x + e.y ≤ length g.fields) → FoundInside g.fields (cond b (functor_number g.fields e.x e.y g.functor) None)
   by_inside true k = functor_number_inside g.fields e.x e.y g.functor (k refl)
   by_inside false k = tt
 

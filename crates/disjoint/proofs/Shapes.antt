@@ -1,4 +1,5 @@
 -- Disjointness by shape is the model's, and the tests of `compatible`. Assumes nothing.
+use Rattle.std.specs.Prelude.{None, Option}
 use Prim.Native.Nat.{ℕ, ◌+◌, ◌≤◌, ◌<◌}
 use mathlib.Core.Path.{◌≡◌, refl, sym, ap, ◌∙◌}
 use mathlib.Core.List.{List, [], ◌∷◌}
@@ -18,8 +19,6 @@ use Rattle.model.specs.declared.Entry.{Entry as EntryOut}
 use Rattle.model.specs.declared.Entry.TheVariants as E
 use Rattle.model.specs.contracts.Entry.{the_type}
 use Rattle.laws.specs.Good.{Good}
-use Rattle.disjoint.specs.declared.FieldFound.{FieldFound}
-use Rattle.disjoint.specs.declared.FieldFound.TheVariants.{Nothing}
 use Rattle.disjoint.specs.declared.Shape.{Shape}
 use Rattle.disjoint.specs.declared.Shape.TheVariants as S
 use Rattle.disjoint.specs.Fields.{Inside, fields_held, number_named, functor_number, functor_record, is_found}
@@ -58,21 +57,21 @@ pub optional_so : (fs : List Field) (a : Attrset) (f : Field) (o : ℕ) → Insi
 optional_so fs a f o h e n = optional fs a h f (λ q. n (e ∙ q))
 
 -- or it is, as the search by its name tells
-pub required_so : (fs : List Field) (a : Attrset) (f : Field) (o n : ℕ) (r : Bool) (k : FieldFound) → Inside fs a → o ≡ f.optional → o ≡ 0
+pub required_so : (fs : List Field) (a : Attrset) (f : Field) (o n : ℕ) (r : Bool) (k : Option ℕ) → Inside fs a → o ≡ f.optional → o ≡ 0
     → n ≡ f.name → k ≡ number_named fs a.first a.count n → r ≡ is_found k → not r ≡ lacks_field (fields_held fs a) f
 required_so fs a f o n r k h e z en ek er = rw (er, ek, en) (required fs a h f (sym e ∙ z))
 
 -- the functor's record, of an entry that reads out so
-abbrev pub functor_by : Graph → EntryOut → FieldFound
-functor_by g (E.Variable l) = Nothing
-functor_by g (E.Primitive p) = Nothing
-functor_by g (E.List x) = Nothing
-functor_by g (E.Lambda p b) = Nothing
+abbrev pub functor_by : Graph → EntryOut → Option ℕ
+functor_by g (E.Variable l) = None
+functor_by g (E.Primitive p) = None
+functor_by g (E.List x) = None
+functor_by g (E.Lambda p b) = None
 functor_by g (E.AttrSet a) = functor_number g.fields a.first a.count g.functor
-functor_by g (E.Named x l) = Nothing
-functor_by g (E.Neg x) = Nothing
-functor_by g (E.Inter x y) = Nothing
-functor_by g (E.Union x y) = Nothing
+functor_by g (E.Named x l) = None
+functor_by g (E.Neg x) = None
+functor_by g (E.Inter x y) = None
+functor_by g (E.Union x y) = None
 
 functor_read : (g : Graph) (e : Entry) {o : EntryOut} → Reads e o → functor_record g e ≡ functor_by g o
 unfolding functor_record is
@@ -87,7 +86,7 @@ functor_read g e (an_inter q) = rw q
 functor_read g e (a_union q) = rw q
 
 -- the arm of all but attrsets
-no_functor : (g : Graph) (o : EntryOut) → OneOf (0 ∷ 1 ∷ 2 ∷ 3 ∷ 5 ∷ 6 ∷ 7 ∷ 8 ∷ []) (tag_of the_type o) → Nothing ≡ functor_by g o
+no_functor : (g : Graph) (o : EntryOut) → OneOf (0 ∷ 1 ∷ 2 ∷ 3 ∷ 5 ∷ 6 ∷ 7 ∷ 8 ∷ []) (tag_of the_type o) → None ≡ functor_by g o
 no_functor g (E.Variable l) h = refl
 no_functor g (E.Primitive p) h = refl
 no_functor g (E.List x) h = refl
@@ -244,7 +243,7 @@ module _ (s : Store) (good : Good s) (i : ℕ) (lt : i < length s.entries) where
   pub functor_at : (o : EntryOut) → o ≡ read_out (entry_at s.entries i) → functor_record (graph_of s) (entry_at s.entries i) ≡ functor_by (graph_of s) o
   functor_at o q = rw q (functor_read (graph_of s) (entry_at s.entries i) (reads s good i lt))
 
-  pub functor_none : (o : EntryOut) → o ≡ read_out (entry_at s.entries i) → OneOf (0 ∷ 1 ∷ 2 ∷ 3 ∷ 5 ∷ 6 ∷ 7 ∷ 8 ∷ []) (tag_of the_type o) → Nothing ≡ functor_record (graph_of s) (entry_at s.entries i)
+  pub functor_none : (o : EntryOut) → o ≡ read_out (entry_at s.entries i) → OneOf (0 ∷ 1 ∷ 2 ∷ 3 ∷ 5 ∷ 6 ∷ 7 ∷ 8 ∷ []) (tag_of the_type o) → None ≡ functor_record (graph_of s) (entry_at s.entries i)
   functor_none o q h = no_functor (graph_of s) o h ∙ sym (functor_at o q)
 
 pub disjoint_by : (s : Store) (good : Good s) (i j : ℕ) → i < length s.entries → j < length s.entries

@@ -1,9 +1,7 @@
 -- Records by their number (past the end, one with every word 0), an entry as it is put, and an attrset from its words. Assumes nothing.
-use Rattle.std.specs.Prelude.{ℕ, ◌/◌, ◌%◌, List, Bool, cond, get_or, eqb}
+use Rattle.std.specs.Prelude.{ℕ, ◌/◌, ◌%◌, List, Bool, cond, get_or, eqb, None, Option, Some}
 use Rattle.model.specs.Format.{mark_flag, open_flag, dynamic_flag}
 use Rattle.model.specs.declared.Attrset.{Attrset}
-use Rattle.model.specs.declared.Dynamic.{Dynamic}
-use Rattle.model.specs.declared.Dynamic.TheVariants.{Absent, Present}
 use Rattle.model.specs.Table.{Entry, Field, Bound, Pair, ◌⊑◌}
 
 -- an entry as it is put, with no negation cached
@@ -34,8 +32,8 @@ says_open flags = eqb (flags / open_flag % 2) 1
 abbrev pub says_dynamic : ℕ → Bool
 says_dynamic flags = eqb (flags / dynamic_flag % 2) 1
 
-abbrev pub dynamic_read : ℕ → ℕ → Dynamic
-dynamic_read flags z = cond (says_dynamic flags) (Present z) Absent
+abbrev pub dynamic_read : ℕ → ℕ → Option ℕ
+dynamic_read flags z = cond (says_dynamic flags) (Some z) None
 
 abbrev pub attrset_read : ℕ → ℕ → ℕ → ℕ → Attrset
 attrset_read x y z flags = record { first = x; count = y; is_open = says_open flags; dynamic = dynamic_read flags z }

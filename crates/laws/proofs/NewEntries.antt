@@ -1,4 +1,5 @@
 -- Each new entry is good. Assumes nothing.
+use Rattle.std.specs.Prelude.{None, Option, Some}
 use Prim.Native.Nat.{ℕ, ◌+◌, ◌*◌, ◌≤◌, ◌<◌, ◌/◌, ◌%◌}
 use native.Mathlib.Omega.{arith}
 use mathlib.Core.Path.{◌≡◌, refl, sym, ap}
@@ -14,8 +15,6 @@ use Rattle.model.specs.Making.{spread_of, fresh_entry, put_entry, new_entry}
 use Rattle.model.specs.Formed.{is_entry, kind_known, primitive_known, components_below, unused_zero, flags_known, negation_known, names_ascend, fields_right}
 use Rattle.model.specs.Told.{bit}
 use Rattle.model.specs.Calls.{dynamic_known, dynamic_type, dynamic_bit, new_attrset}
-use Rattle.model.specs.declared.Dynamic.{Dynamic}
-use Rattle.model.specs.declared.Dynamic.TheVariants.{Absent, Present}
 use Rattle.laws.specs.Good.{free_fits, spread_is, entry_good, EntriesGood}
 use Rattle.laws.specs.Growth.{EntriesKept}
 use Rattle.laws.proofs.Tests.{both, nth, none, ◌and◌, all_passed, of_le, of_lt, of_eq}
@@ -104,15 +103,15 @@ module _ (es : List Entry) (fs : List Field) (names : ℕ) (g : EntriesGood es f
     union_good = put_good union x y 0 0 (λ l. h) (λ l. k) two
 
 -- a new attrset: its flags, its first field and its fields
-dynamic_tests : (es : List Entry) (wide : Bool) (d : Dynamic) → T (dynamic_known es d)
+dynamic_tests : (es : List Entry) (wide : Bool) (d : Option ℕ) → T (dynamic_known es d)
     → (let flags = open_flag * bit wide + dynamic_bit d in
     let dyn = eqb (flags / 4 % 2) 1 in
     T (all_of ((dyn ⇒ ltb (dynamic_type d) (length es)) ∷ (dyn || is_zero (dynamic_type d)) ∷ leb flags 7 ∷ [])))
 unfolding dynamic_known dynamic_type dynamic_bit is_entry
-dynamic_tests es true Absent h = all_passed _ (tt and tt and tt and none)
-dynamic_tests es false Absent h = all_passed _ (tt and tt and tt and none)
-dynamic_tests es true (Present n) h = all_passed _ (h and tt and tt and none)
-dynamic_tests es false (Present n) h = all_passed _ (h and tt and tt and none)
+dynamic_tests es true None h = all_passed _ (tt and tt and tt and none)
+dynamic_tests es false None h = all_passed _ (tt and tt and tt and none)
+dynamic_tests es true (Some n) h = all_passed _ (h and tt and tt and none)
+dynamic_tests es false (Some n) h = all_passed _ (h and tt and tt and none)
 
 first_zero : (b : Bool) (m : ℕ) → T (b ⇒ is_zero (cond b 0 m))
 first_zero true m = tt
@@ -126,11 +125,11 @@ fields_new : (fs new : List Field) → take (length new) (drop (cond (is_zero (l
 fields_new fs [] = refl
 fields_new fs (f ∷ l) = rw (eqb-suc-zero (length l), drop-append_seam fs (f ∷ l), take-length (f ∷ l))
 
-pub attrset_kept : (es : List Entry) (fs new : List Field) (wide : Bool) (d : Dynamic) → EntriesKept es (new_attrset es fs new wide d).after
+pub attrset_kept : (es : List Entry) (fs new : List Field) (wide : Bool) (d : Option ℕ) → EntriesKept es (new_attrset es fs new wide d).after
 unfolding new_attrset
 attrset_kept es fs new wide d = put_kept es attrset (cond (is_zero (length new)) 0 (length fs)) (length new) (dynamic_type d) (open_flag * bit wide + dynamic_bit d)
 
-pub attrset_good : (es : List Entry) (fs : List Field) (names : ℕ) → EntriesGood es fs names → (new : List Field) (wide : Bool) (d : Dynamic)
+pub attrset_good : (es : List Entry) (fs : List Field) (names : ℕ) → EntriesGood es fs names → (new : List Field) (wide : Bool) (d : Option ℕ)
     → T (names_ascend names new) → T (all (λ f. is_entry es f.entry) new) → T (dynamic_known es d) → EntriesGood (new_attrset es fs new wide d).after (fs ++ new) names
 unfolding entry_tests new_attrset is_entry
 attrset_good es fs names g new wide d a n k =

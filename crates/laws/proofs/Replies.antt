@@ -1,5 +1,6 @@
 -- What a call replies, by its tests: a test and then the rest; the image's admission; the turn of a well formed image. No other law
 -- opens these. Assumes nothing.
+use Rattle.std.specs.Prelude.{Err, Ok, Result}
 use Prim.Native.Nat.{ℕ}
 use mathlib.Core.Path.{◌≡◌, ap, subst}
 use mathlib.Core.List.{List}
@@ -12,8 +13,6 @@ use Rattle.model.specs.Told.{Told, number_of, told_refusal, told_unopened}
 use Rattle.model.proofs.OneToOne.{refusal_one_to_one}
 use Rattle.model.specs.declared.Question.{Question}
 use Rattle.model.specs.declared.Refusal.{Refusal}
-use Rattle.model.specs.declared.Admission.{Admission}
-use Rattle.model.specs.declared.Admission.TheVariants.{Good, Unfit}
 use Rattle.laws.specs.Refusals.{for_room, of_image}
 use Rattle.laws.proofs.Tests.{true_of, no_test}
 use Rattle.laws.proofs.Stores.{by_test}
@@ -32,27 +31,27 @@ unfolding provided
 passed_by ok r turn e = rw e
 
 -- an image is good exactly where it is well formed, and its refusals are of the image
-abbrev Admits : List ℕ → Admission → Type 0
-Admits ws Good = T (well_formed ws)
-Admits ws (Unfit r) = T (not (well_formed ws)) × T (of_image r)
+abbrev Admits : List ℕ → Result (Unit {0}) Refusal → Type 0
+Admits ws (Ok tt) = T (well_formed ws)
+Admits ws (Err r) = T (not (well_formed ws)) × T (of_image r)
 
 admits : (ws : List ℕ) → Admits ws (admission ws)
 unfolding admission
 admits ws = by_test (Admits ws) (well_formed ws) (λ h. h) (λ h. (h, tt))
 
-pub formed_good : (ws : List ℕ) → T (well_formed ws) → admission ws ≡ Good
+pub formed_good : (ws : List ℕ) → T (well_formed ws) → admission ws ≡ (Ok tt)
 unfolding admission
 formed_good ws h = rw (true_of (well_formed ws) h)
 
-pub good_formed : (ws : List ℕ) → admission ws ≡ Good → T (well_formed ws)
-good_formed ws e = subst (λ (a : Admission). Admits ws a) e (admits ws)
+pub good_formed : (ws : List ℕ) → admission ws ≡ (Ok tt) → T (well_formed ws)
+good_formed ws e = subst (λ (a : Result (Unit {0}) Refusal). Admits ws a) e (admits ws)
 
 -- every call of a well formed image is its turn; of another, the refusal
 pub perform_formed : (c : Call) (ws : List ℕ) → T (well_formed ws) → perform c ws ≡ response_of ws (turn_of c ws (table ws))
 unfolding perform on_table admitted
 perform_formed c ws h = rw (formed_good ws h)
 
-pub perform_unfit : (c : Call) (ws : List ℕ) (r : Refusal) → admission ws ≡ Unfit r → perform c ws ≡ response_of ws (tell (denies c r))
+pub perform_unfit : (c : Call) (ws : List ℕ) (r : Refusal) → admission ws ≡ Err r → perform c ws ≡ response_of ws (tell (denies c r))
 unfolding perform on_table admitted
 perform_unfit c ws r e = rw e
 
@@ -66,9 +65,9 @@ pub by_fitness : (P : Turn → Type 0) (denied : Refusal → Told) (ws : List �
 unfolding admitted
 by_fitness P denied ws turn f g = fitness (admission ws) (admits ws)
   where
-    fitness : (a : Admission) → Admits ws a → P (admitted denied a turn)
-    fitness Good h = g h
-    fitness (Unfit r) h = f r h.1
+    fitness : (a : Result (Unit {0}) Refusal) → Admits ws a → P (admitted denied a turn)
+    fitness (Ok tt) h = g h
+    fitness (Err r) h = f r h.1
 
 pub by_admission : (P : Response → Type 0) (c : Call) (ws : List ℕ) → ((r : Refusal) → T (of_image r) → P (response_of ws (tell (denies c r))))
     → (T (well_formed ws) → P (response_of ws (turn_of c ws (table ws)))) → P (perform c ws)

@@ -1,4 +1,5 @@
 -- A question by its refusals, one after the other; then the room for what it opens. Assumes nothing.
+use Rattle.std.specs.Prelude.{Err, Ok, Result}
 use Prim.Native.Nat.{ℕ, ◌+◌, ◌≤◌, ◌<◌}
 use native.Mathlib.Omega.{arith}
 use mathlib.Core.Path.{◌≡◌, refl, sym, ap, subst, ◌∙◌}
@@ -16,8 +17,6 @@ use Rattle.model.specs.Room.{first_lacking, deep_enough, fitting}
 use Rattle.model.specs.Calls.{Response, Turn, refuse, leave, response_of, provided, when_asked, leave_by, leave_if_room, is_recorded, recorded, pairs_of, opened, broken_by, ask_turn, abandon_turn, work_turn}
 use Rattle.model.specs.Told.{done, told_refusal}
 use Rattle.model.specs.declared.Question.{Question}
-use Rattle.model.specs.declared.Reply.{Reply}
-use Rattle.model.specs.declared.Reply.TheVariants as Y
 use Rattle.model.specs.declared.Refusal.{Refusal}
 use Rattle.model.specs.declared.Refusal.TheVariants.{BadNumber, Busy, Idle, Broken, NoRoom}
 use Rattle.laws.specs.Good.{SoundStore}
@@ -78,10 +77,10 @@ module _ (w : List ℕ) (q : Question) where
       no_second h = rw (i, u, le-ltb q.right (length (entries_of w)) h, and-false)
 
       -- 5, or what it opens
-      pub fit : q.left < length (entries_of w) → q.right < length (entries_of w) → (x : Reply) → Roomy w q x → Fitness w q x
+      pub fit : q.left < length (entries_of w) → q.right < length (entries_of w) → (x : Result (Unit {0}) Refusal) → Roomy w q x → Fitness w q x
       unfolding ask_turn provided is_entry leave_if_room leave_by opened
-      fit h k (Y.Refused r) e = rw (i, u, lt-ltb q.left (length (entries_of w)) h, lt-ltb q.right (length (entries_of w)) k, e)
-      fit h k Y.Done e =
+      fit h k (Err r) e = rw (i, u, lt-ltb q.left (length (entries_of w)) h, lt-ltb q.right (length (entries_of w)) k, e)
+      fit h k (Ok tt) e =
           (e.0, idle_empty w i, rw (i, u, lt-ltb q.left (length (entries_of w)) h, lt-ltb q.right (length (entries_of w)) k, e.1))
 
 -- a reply where a call is refused
@@ -138,24 +137,24 @@ module _ (w : List ℕ) (h : T (well_formed w)) (q : Question) where
       let e = sound.held in
       rw (le-ltb _ _ e.entries, le-ltb _ _ e.fields, le-ltb _ _ e.bounds, le-ltb _ _ e.visited, lt-ltb _ _ l)
 
-  pub no_pending : s.capacities.pending < length (pairs_of q) → Roomy w q (Y.Refused (NoRoom pending_region))
+  pub no_pending : s.capacities.pending < length (pairs_of q) → Roomy w q (Err (NoRoom pending_region))
   unfolding recorded with_equals
   no_pending l =
       by_test (λ (u : Store). fitting u (length (pairs_of q)) ≡ lacks (NoRoom pending_region)) (is_recorded q) (λ k. lacks_pending l _) (λ k. lacks_pending l s.equals)
 
   module _ (p : length (pairs_of q) ≤ s.capacities.pending) where
-    pub no_equals : is_recorded q ≡ true → s.capacities.equals ≤ length s.equals → Roomy w q (Y.Refused (NoRoom equals_region))
+    pub no_equals : is_recorded q ≡ true → s.capacities.equals ≤ length s.equals → Roomy w q (Err (NoRoom equals_region))
     unfolding fitting first_lacking deep_enough recorded with_equals
     no_equals r l =
         let e = sound.held in
         let more : s.capacities.equals < length (s.equals ++ ((q.left ⊑ q.right) ∷ [])) = simp length-append (omega arith) in
         rw (r, le-ltb _ _ e.entries, le-ltb _ _ e.fields, le-ltb _ _ e.bounds, le-ltb _ _ e.visited, le-ltb _ _ p, lt-ltb _ _ more)
 
-    pub room_plain : is_recorded q ≡ false → Roomy w q Y.Done
+    pub room_plain : is_recorded q ≡ false → Roomy w q (Ok tt)
     unfolding recorded
     room_plain e = rw e (record { pairs = p; equals = rw e sound.held.equals }, fitting_enough s (length (pairs_of q)) sound.held p sound.shallow)
 
-    pub room_one : is_recorded q ≡ true → length s.equals < s.capacities.equals → Roomy w q Y.Done
+    pub room_one : is_recorded q ≡ true → length s.equals < s.capacities.equals → Roomy w q (Ok tt)
     unfolding recorded with_equals
     room_one e l =
         let k = sound.held in

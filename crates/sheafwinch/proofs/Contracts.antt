@@ -2,15 +2,15 @@
 -- over whatever meets a call, hold of these. The reads are lent the image to read only. `Post` is the contract: what the function ensures
 -- of its arguments, its result and the image at exit; `a.0.now` is the image at entry, `e.0.now` at exit. That every call ends, on any
 -- input, is what Rattle checks of each function. Assumes nothing.
+use Rattle.std.specs.Prelude.{Result}
 use Prim.Native.Nat.{ℕ}
 use mathlib.Core.Path.{refl}
 use mathlib.Core.List.{List}
 use denote.MutBor.{MutBor}
+use Rattle.model.specs.declared.Refusal.{Refusal}
 use Rattle.model.specs.Calls.{Call, makes_variable, makes_primitive, makes_list, makes_lambda, makes_attrset, makes_named, makes_neg, makes_inter, makes_union, marks, puts_bound, enters, exits, sets_level, under, both_ways, opens, works, abandons}
 use Rattle.model.specs.Told.{Told, told_made, told_reply, told_answer, told_opening, steps_of}
 use Rattle.model.specs.declared.Instalment.{Instalment}
-use Rattle.model.specs.declared.Opening.{Opening}
-use Rattle.model.specs.declared.Reply.{Reply}
 use Rattle.image.specs.Stores.{capacities_of}
 use Rattle.demands.specs.Meets.{Meets, MeetsStart}
 use Rattle.demands.proofs.Demand1.{meets}
@@ -39,7 +39,7 @@ abbrev pub Met : {K R : Type 0} {A X : K → Type 0} → (R → Told) → ((κs 
 Met {K} {R} {A} {X} told call post =
     (κs : K) (a : MutBor (List ℕ) × A κs) (x : R) (e : MutBor (List ℕ) × X κs) → post κs a x e → Meets (call κs a.1) a.0.now (told x) 0 e.0.now
 
-pub start_met : (κs : _) (a : _) (x : Reply) (e : _) → start.Post κs a x e
+pub start_met : (κs : _) (a : _) (x : Result (Unit {0}) Refusal) (e : _) → start.Post κs a x e
     → MeetsStart a.1.0 a.1.1.0 (capacities_of a.1.1.1.0) a.0.now (told_reply x) e.0.now
 start_met κs a x e p = record { tells = p.0; leaves = p.1 }
 
@@ -93,10 +93,10 @@ pub work_met : (κs : _) (a : _) (x : Instalment) (e : _) → work.Post κs a x 
 work_met κs a x e p = record { tells = p.0; counts = p.1.0; leaves = p.1.1 }
 
 -- and so do the openings
-pub open_met : (κs : _) (a : _) (x : Opening) (e : _) → open-call.Post κs a x e
+pub open_met : (κs : _) (a : _) (x : Result Instalment Refusal) (e : _) → open-call.Post κs a x e
     → Meets (opens (under a.1.0 a.1.1.0 a.1.1.1.0) a.1.1.1.1.0) a.0.now (told_opening x) (steps_of x) e.0.now
 open_met κs a x e p = record { tells = p.0; counts = p.1.0; leaves = p.1.1 }
 
-pub open_equal_met : (κs : _) (a : _) (x : Opening) (e : _) → open-equal.Post κs a x e
+pub open_equal_met : (κs : _) (a : _) (x : Result Instalment Refusal) (e : _) → open-equal.Post κs a x e
     → Meets (opens (both_ways a.1.0 a.1.1.0 a.1.1.1.0) a.1.1.1.1.0) a.0.now (told_opening x) (steps_of x) e.0.now
 open_equal_met κs a x e p = record { tells = p.0; counts = p.1.0; leaves = p.1.1 }

@@ -1,4 +1,5 @@
 -- The pairs of sup's fields put on pending, last first: where the loop over the fields stands. Assumes nothing.
+use Rattle.std.specs.Prelude.{None, Option, Some}
 use Prim.Native.Nat.{ℕ, zero, suc, ◌+◌, ◌-◌, ◌≤◌, ◌<◌}
 use native.Mathlib.Omega.{arith}
 use mathlib.Core.Path.{◌≡◌, refl, sym, ap, subst, ◌∙◌}
@@ -9,8 +10,6 @@ use denote.Enum.Declared.{tag_of}
 use Rattle.model.specs.Table.{Field, Pair, ◌⊑◌, Table, table_of}
 use Rattle.model.specs.Image.{table}
 use Rattle.model.specs.declared.Attrset.{Attrset}
-use Rattle.model.specs.declared.Dynamic.{Dynamic}
-use Rattle.model.specs.declared.Dynamic.TheVariants.{Absent, Present}
 use Rattle.image.specs.Shown.{store_of, fields_in, pending_in, pending_to}
 use Rattle.image.specs.Records.{field_at}
 use Rattle.image.proofs.Laying.{seen, shown_as}
@@ -56,19 +55,19 @@ module _ (fs : List Field) (a : Attrset) (j : ℕ) where
   field_free {o} q h = rw (← q) (not_under o h)
 
 -- two dynamic types
-pub dynamic_both : {a b : Dynamic} {m n : ℕ} → a ≡ Present m → b ≡ Present n → dynamic_pairs a b ≡ (m ⊑ n) ∷ []
+pub dynamic_both : {a b : (Option ℕ)} {m n : ℕ} → a ≡ Some m → b ≡ Some n → dynamic_pairs a b ≡ (m ⊑ n) ∷ []
 dynamic_both p q = rw (p, q)
 
-pub dynamic_first : {a : Dynamic} (b : Dynamic) → a ≡ Absent → dynamic_pairs a b ≡ []
+pub dynamic_first : {a : (Option ℕ)} (b : Option ℕ) → a ≡ None → dynamic_pairs a b ≡ []
 dynamic_first b p = rw p
 
-pub dynamic_second : {a b : Dynamic} {m : ℕ} → a ≡ Present m → b ≡ Absent → dynamic_pairs a b ≡ []
+pub dynamic_second : {a b : (Option ℕ)} {m : ℕ} → a ≡ Some m → b ≡ None → dynamic_pairs a b ≡ []
 dynamic_second p q = rw (p, q)
 
-dynamic_reverse : (a b : Dynamic) → reverse (dynamic_pairs a b) ≡ dynamic_pairs a b
-dynamic_reverse Absent b = refl
-dynamic_reverse (Present m) Absent = refl
-dynamic_reverse (Present m) (Present n) = refl
+dynamic_reverse : (a b : Option ℕ) → reverse (dynamic_pairs a b) ≡ dynamic_pairs a b
+dynamic_reverse None b = refl
+dynamic_reverse (Some m) None = refl
+dynamic_reverse (Some m) (Some n) = refl
 
 pub dynamic_room : (w : List ℕ) (a b : Attrset) → length (pending_in w) + length (field_pairs (fields_in w) a b) ≤ (store_of w).capacities.pending
     → length (pending_in w) + length (dynamic_pairs a.dynamic b.dynamic) ≤ (store_of w).capacities.pending

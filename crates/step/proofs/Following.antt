@@ -1,4 +1,5 @@
 -- Consequences that need nothing made: put on pending last first, and the step that goes on with them. Assumes nothing.
+use Rattle.std.specs.Prelude.{Err, Ok, Result}
 use Prim.Native.Nat.{ℕ, ◌+◌, ◌≤◌, ◌<◌}
 use native.Mathlib.Omega.{arith}
 use mathlib.Core.Path.{◌≡◌, refl, sym, ap, subst, ◌∙◌}
@@ -21,8 +22,6 @@ use Rattle.constrain.specs.declared.Pairs.TheVariants.{Nothing, One, Two, Fields
 use Rattle.step.specs.Taken.{before_last, Midway, room_in, RoomFor}
 use Rattle.step.specs.Put.{count_in}
 use Rattle.step.specs.declared.Step.TheVariants.{Went, Refused}
-use Rattle.step.specs.declared.StepRoom.{StepRoom}
-use Rattle.step.specs.declared.StepRoom.TheVariants.{Enough, Lacks}
 use Rattle.step.proofs.Rooms.{fits, room_found}
 use Rattle.step.proofs.Taking.{Takes, refused, went}
 
@@ -87,7 +86,7 @@ module _ (w : List ℕ) (ps : Pairs) where
     put_fields v s = rw e s
 
 -- the step
-module _ (w : List ℕ) (p : Pair) (ps : Pairs) (right : PairsRight (fields_in w) ps) (k : ℕ) (counted : k ≡ count_in ps) (found : StepRoom) (room : RoomFor w (store_of w) k found) where
+module _ (w : List ℕ) (p : Pair) (ps : Pairs) (right : PairsRight (fields_in w) ps) (k : ℕ) (counted : k ≡ count_in ps) (found : Result (Unit {0}) Refusal) (room : RoomFor w (store_of w) k found) where
   abbrev follows : List Pair
   follows = pairs_in (fields_in w) ps
 
@@ -98,10 +97,10 @@ module _ (w : List ℕ) (p : Pair) (ps : Pairs) (right : PairsRight (fields_in w
   unfolding room_for
   follow_room = ap (λ (n : ℕ). fitting (visit p (store_of w)) (length (before_last w) + n)) (sym many) ∙ sym (room p)
 
-  pub follow_refused : (r : Refusal) → found ≡ Lacks r → Takes w (goes (visit p (store_of w)) follows) (Refused r) w
+  pub follow_refused : (r : Refusal) → found ≡ Err r → Takes w (goes (visit p (store_of w)) follows) (Refused r) w
   follow_refused r e = refused w (goes (visit p (store_of w)) follows) r (follow_room ∙ ap room_in e)
 
-  module _ (e : found ≡ Enough) (v : List ℕ) (s : Midway v (table_of (visit p (store_of w)) (before_last w))) where
+  module _ (e : found ≡ (Ok tt)) (v : List ℕ) (s : Midway v (table_of (visit p (store_of w)) (before_last w))) where
     pub follow_needs : Midway v (table v) × (PairsRight (fields_in v) ps × (length (pending_in v) + length (pairs_in (fields_in v) ps) ≤ (store_of v).capacities.pending))
     unfolding visit with_visited
     follow_needs =

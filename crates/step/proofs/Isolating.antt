@@ -1,4 +1,5 @@
 -- An inter's chosen side under sup or the negation of the other: what the code knows, and what it comes to at each way out. Assumes nothing.
+use Rattle.std.specs.Prelude.{None, Option, Some}
 use Prim.Native.Nat.{ℕ, ◌≤◌, ◌<◌}
 use native.Mathlib.Omega.{arith}
 use mathlib.Core.Path.{◌≡◌, refl, sym, ap, subst, ◌∙◌}
@@ -22,8 +23,6 @@ use Rattle.laws.proofs.Negation.{Grown, target_grown, undo_target}
 use Rattle.image.specs.Shown.{Shows, Shown, store_of, entries_of, fields_in, pending_in, entries_to}
 use Rattle.image.proofs.Laying.{shown}
 use Rattle.type_table.specs.Made.{entries_in, Negatable, UndoesTo}
-use Rattle.type_table.specs.declared.Negated.{Negated}
-use Rattle.type_table.specs.declared.Negated.TheVariants as N
 use Rattle.type_table.proofs.Undoing.{seen_entries}
 use Rattle.type_table.proofs.Negating.{never}
 use Rattle.type_table.proofs.Answers.{negatable, words_back}
@@ -49,11 +48,11 @@ module _ (w : List ℕ) (sub sup c d : ℕ) (good : T (well_formed w)) (below-su
   pub isolate_asks : Negatable w d × (Good (store_of w) × (Shallow (entries_of w) × (sup < length (entries_of w))))
   isolate_asks = (negatable w d good below, (sound.good, (sound.shallow, below-sup)))
 
-  module _ (old : ℕ) (e : old ≡ length (entries_of w)) (a : Negated) (v : List ℕ) (r : TargetIn (table w) sup d a v) where
+  module _ (old : ℕ) (e : old ≡ length (entries_of w)) (a : Option ℕ) (v : List ℕ) (r : TargetIn (table w) sup d a v) where
     -- there was no room
-    module _ (f : a ≡ N.Full) where
-      none : TargetIn (table w) sup d N.Full v
-      none = subst (λ (b : Negated). TargetIn (table w) sup d b v) f r
+    module _ (f : a ≡ None) where
+      none : TargetIn (table w) sup d None v
+      none = subst (λ (b : Option ℕ). TargetIn (table w) sup d b v) f r
 
       lacking : (store_of w).capacities.entries < length (target sup (make_neg (entries_of w) d)).after
       lacking =
@@ -78,9 +77,9 @@ module _ (w : List ℕ) (sub sup c d : ℕ) (good : T (well_formed w)) (below-su
           ∙ ap (λ (x : List ℕ). record { says = Refused (NoRoom entries_region); words = x }) (sym back))
 
     -- all is made
-    module _ (k : ℕ) (f : a ≡ N.Number k) where
-      all : TargetIn (table w) sup d (N.Number k) v
-      all = subst (λ (b : Negated). TargetIn (table w) sup d b v) f r
+    module _ (k : ℕ) (f : a ≡ Some k) where
+      all : TargetIn (table w) sup d (Some k) v
+      all = subst (λ (b : Option ℕ). TargetIn (table w) sup d b v) f r
 
       fits : length (target sup (make_neg (entries_of w) d)).after ≤ (store_of w).capacities.entries
       fits =
@@ -90,7 +89,7 @@ module _ (w : List ℕ) (sub sup c d : ℕ) (good : T (well_formed w)) (below-su
           (lt_or_ge (store_of w).capacities.entries (length (target sup (make_neg (entries_of w) d)).after))
 
       number_is : k ≡ (target sup (make_neg (entries_of w) d)).number
-      number_is = let q : N.Number k ≡ N.Number (target sup (make_neg (entries_of w) d)).number = (all.done fits).0 in cc
+      number_is = let q : Some k ≡ Some (target sup (make_neg (entries_of w) d)).number = (all.done fits).0 in cc
 
       shows : Shows v (entries_to w (target sup (make_neg (entries_of w) d)).after)
       shows = (all.done fits).1

@@ -1,4 +1,5 @@
 -- A bound that joins a variable's, and the pairs that follow: what each change needs, and what the step answers. Assumes nothing.
+use Rattle.std.specs.Prelude.{Err, Ok, Result}
 use Prim.Native.Nat.{ℕ, ◌+◌, ◌-◌, ◌≤◌, ◌<◌}
 use native.Mathlib.Omega.{arith}
 use mathlib.Core.Path.{◌≡◌, refl, sym, ap, subst, ◌∙◌}
@@ -18,12 +19,10 @@ use Rattle.image.specs.Shown.{Shows, Shown, store_of, graph_in, entries_of, boun
 use Rattle.image.proofs.Laying.{seen, shown, shown_as}
 use Rattle.step.specs.Taken.{before_last, Midway, room_in, RoomFor}
 use Rattle.step.specs.declared.Step.TheVariants.{Went, Refused}
-use Rattle.step.specs.declared.StepRoom.{StepRoom}
-use Rattle.step.specs.declared.StepRoom.TheVariants.{Enough, Lacks}
 use Rattle.step.proofs.Rooms.{fits, room_found, visited_room, pass_room}
 use Rattle.step.proofs.Taking.{Takes, refused, went}
 
-pub bound_fits : (w : List ℕ) (v side b more : ℕ) (found : StepRoom) → found ≡ Enough → RoomFor w (with_bounds (add_bound v side b (bounds_all w)) (store_of w)) more found
+pub bound_fits : (w : List ℕ) (v side b more : ℕ) (found : Result (Unit {0}) Refusal) → found ≡ (Ok tt) → RoomFor w (with_bounds (add_bound v side b (bounds_all w)) (store_of w)) more found
     → length (add_bound v side b (bounds_all w)) ≤ (store_of w).capacities.bounds
 unfolding visit with_visited with_bounds
 bound_fits w v side b more found e q =
@@ -51,11 +50,11 @@ pub then_advance : {u x : List ℕ} {t : Table} → Shows u t → (p : Pair) →
 then_advance {u} {x} {t} s p h = subst (λ (y : Table). Midway x (table_of (visit p y.store) (take (length y.pending - 1) y.pending))) (seen s) h
 
 -- what the step leaves, but for its pair: the room, and the pairs to come
-pub record Joins (w : List ℕ) (after : Store) (v other more : ℕ) (found : StepRoom) : Type 0 where
+pub record Joins (w : List ℕ) (after : Store) (v other more : ℕ) (found : Result (Unit {0}) Refusal) : Type 0 where
   pub room : RoomFor w after more found
   pub counted : length (bounds_in after.bounds v other) ≡ more
 
-pub joins : (w : List ℕ) (v side b more : ℕ) (found : StepRoom) → side ≤ upper → more ≡ length (bounds_in (bounds_all w) v (other_side side))
+pub joins : (w : List ℕ) (v side b more : ℕ) (found : Result (Unit {0}) Refusal) → side ≤ upper → more ≡ length (bounds_in (bounds_all w) v (other_side side))
     → RoomFor w (with_bounds (add_bound v side b (bounds_all w)) (store_of w)) more found → Joins w (with_bound w v side b) v (other_side side) more found
 unfolding with_bounds with_entries
 joins w v side b more found le e q =
@@ -65,8 +64,8 @@ joins w v side b more found le e q =
       counted = ap length (add_bounds (bounds_all w) v b v side le) ∙ sym e;
     }
 
-module _ (w : List ℕ) (after : Store) (v other more : ℕ) (found : StepRoom) (j : Joins w after v other more found) where
-  module _ (e : found ≡ Enough) where
+module _ (w : List ℕ) (after : Store) (v other more : ℕ) (found : Result (Unit {0}) Refusal) (j : Joins w after v other more found) where
+  module _ (e : found ≡ (Ok tt)) where
     pub advance_needs : (u : List ℕ) → Shows u (table_of after (pending_in w)) → 0 < length (pending_in w)
         → Shown u × ((length (visited_in u) < (store_of u).capacities.visited) × (0 < length (pending_in u)))
     advance_needs u s h = (
@@ -91,10 +90,10 @@ module _ (w : List ℕ) (after : Store) (v other more : ℕ) (found : StepRoom) 
   room_is p f =
       ap (λ (n : ℕ). fitting (visit p after) (length (before_last w) + n)) (length-map (bounds_in after.bounds v other) f ∙ j.counted) ∙ sym (j.room p)
 
-  pub join_refused : (p : Pair) (f : ℕ → Pair) (x : Refusal) → found ≡ Lacks x → Takes w (goes (visit p after) (map f (bounds_in after.bounds v other))) (Refused x) w
+  pub join_refused : (p : Pair) (f : ℕ → Pair) (x : Refusal) → found ≡ Err x → Takes w (goes (visit p after) (map f (bounds_in after.bounds v other))) (Refused x) w
   join_refused p f x e = refused w (goes (visit p after) (map f (bounds_in after.bounds v other))) x (room_is p f ∙ ap room_in e)
 
-  pub joined : (p : Pair) (f : ℕ → Pair) → found ≡ Enough → (u x : List ℕ) → Midway u (table_of (visit p after) (before_last w))
+  pub joined : (p : Pair) (f : ℕ → Pair) → found ≡ (Ok tt) → (u x : List ℕ) → Midway u (table_of (visit p after) (before_last w))
       → Shows x (pending_to u (pending_in u ++ reverse (map f (bounds_in (bounds_all u) v other)))) → Takes w (goes (visit p after) (map f (bounds_in after.bounds v other))) Went x
   unfolding visit with_visited
   joined p f e u x su sx =
@@ -109,13 +108,13 @@ join_outcome : (w : List ℕ) (p : Pair) (v side b : ℕ)
 unfolding outcome_of join_bounds changed_to with_graph visit with_visited with_bounds with_entries
 join_outcome w p v side b = refl
 
-module _ (w : List ℕ) (p : Pair) (v side b more : ℕ) (found : StepRoom) (j : Joins w (with_bound w v side b) v (other_side side) more found) where
-  pub bound_refused : (x : Refusal) → found ≡ Lacks x → Takes w (outcome_of (visit p (store_of w)) p (join_bounds (graph_in w) v side b)) (Refused x) w
+module _ (w : List ℕ) (p : Pair) (v side b more : ℕ) (found : Result (Unit {0}) Refusal) (j : Joins w (with_bound w v side b) v (other_side side) more found) where
+  pub bound_refused : (x : Refusal) → found ≡ Err x → Takes w (outcome_of (visit p (store_of w)) p (join_bounds (graph_in w) v side b)) (Refused x) w
   bound_refused x e =
       subst (λ (o : Outcome Store Pair Failure). Takes w o (Refused x) w) (join_outcome w p v side b)
       (join_refused w _ v (other_side side) more found j p (bound_pair (other_side side) b) x e)
 
-  pub bound_joined : found ≡ Enough → (u x : List ℕ) → Midway u (table_of (visit p (with_bound w v side b)) (before_last w))
+  pub bound_joined : found ≡ (Ok tt) → (u x : List ℕ) → Midway u (table_of (visit p (with_bound w v side b)) (before_last w))
       → Shows x (pending_to u (pending_in u ++ reverse (map (bound_pair (other_side side) b) (bounds_in (bounds_all u) v (other_side side)))))
       → Takes w (outcome_of (visit p (store_of w)) p (join_bounds (graph_in w) v side b)) Went x
   bound_joined e u x su sx =

@@ -1,4 +1,5 @@
 -- The room for a store that a step would leave, told region by region; changes of a store that leave it the same room. Assumes nothing.
+use Rattle.std.specs.Prelude.{Err, Ok, Result}
 use Prim.Native.Nat.{ℕ, zero, suc, ◌+◌, ◌-◌, ◌≤◌, ◌<◌}
 use native.Mathlib.Omega.{arith}
 use mathlib.Core.Path.{◌≡◌, refl, sym, ap, ◌∙◌}
@@ -8,6 +9,7 @@ use lib.ListN.{length, length-append}
 use lib.Seq.{length-take-le}
 use lib.Dec.{T, eqb, ltb}
 use borrow.Author.Tests.{lt-ltb, le-ltb, ltb-false}
+use Rattle.model.specs.declared.Refusal.{Refusal}
 use Rattle.instalments.specs.Machine.{enough}
 use Rattle.model.specs.Lists.{any}
 use Rattle.model.specs.Format.{bounds_region, visited_region, pending_region, spread_most, variable, upper}
@@ -24,8 +26,6 @@ use Rattle.laws.proofs.StepSound.{passes, fitting_enough}
 use Rattle.laws.proofs.Stores.{by_test}
 use Rattle.image.specs.Shown.{store_of, bounds_all, visited_in, pending_in}
 use Rattle.step.specs.Taken.{before_last, room_in, RoomFor, RoomForBound}
-use Rattle.step.specs.declared.StepRoom.{StepRoom}
-use Rattle.step.specs.declared.StepRoom.TheVariants.{Enough, Lacks}
 
 -- what is left where the last pair is taken off
 pub before_length : (w : List ℕ) → length (before_last w) ≡ length (pending_in w) - 1
@@ -36,14 +36,14 @@ one_more l x = simp length-append
 
 -- room for a visited pair and so many consequences, by the numbers that are read
 module _ (w : List ℕ) (good : T (well_formed w)) (more : ℕ) where
-  pub lacks_visited : (store_of w).capacities.visited ≤ length (visited_in w) → RoomFor w (store_of w) more (Lacks (NoRoom visited_region))
+  pub lacks_visited : (store_of w).capacities.visited ≤ length (visited_in w) → RoomFor w (store_of w) more (Err (NoRoom visited_region))
   unfolding fitting first_lacking deep_enough visit with_visited
   lacks_visited h p =
       let k = (sound_table w good).store.held in
       sym (rw (le-ltb _ _ k.entries, le-ltb _ _ k.fields, le-ltb _ _ k.bounds, lt-ltb (store_of w).capacities.visited (length (visited_in w ++ (p ∷ []))) (omega (arith, one_more (visited_in w) p))))
 
   module _ (v : length (visited_in w) < (store_of w).capacities.visited) where
-    pub lacks_pending : (store_of w).capacities.pending < length (before_last w) + more → RoomFor w (store_of w) more (Lacks (NoRoom pending_region))
+    pub lacks_pending : (store_of w).capacities.pending < length (before_last w) + more → RoomFor w (store_of w) more (Err (NoRoom pending_region))
     unfolding fitting first_lacking deep_enough visit with_visited
     lacks_pending h p =
         let k = (sound_table w good).store.held in
@@ -55,7 +55,7 @@ module _ (w : List ℕ) (good : T (well_formed w)) (more : ℕ) where
           lt-ltb (store_of w).capacities.pending (length (before_last w) + more) h,
         ))
 
-    pub room_enough : length (before_last w) + more ≤ (store_of w).capacities.pending → RoomFor w (store_of w) more Enough
+    pub room_enough : length (before_last w) + more ≤ (store_of w).capacities.pending → RoomFor w (store_of w) more (Ok tt)
     unfolding visit with_visited
     room_enough h p =
         let s = (sound_table w good).store in
@@ -85,10 +85,10 @@ fits u n e =
     }
 
 -- room was found for a store with its pair visited
-pub room_found : (w : List ℕ) (s : Store) (more : ℕ) (r : StepRoom) → r ≡ Enough → RoomFor w s more r → (p : Pair) → fitting (visit p s) (length (before_last w) + more) ≡ enough
+pub room_found : (w : List ℕ) (s : Store) (more : ℕ) (r : Result (Unit {0}) Refusal) → r ≡ (Ok tt) → RoomFor w s more r → (p : Pair) → fitting (visit p s) (length (before_last w) + more) ≡ enough
 room_found w s more r e q p = sym (q p) ∙ ap room_in e
 
-pub visited_room : (w : List ℕ) (s : Store) (more : ℕ) (r : StepRoom) → r ≡ Enough → RoomFor w s more r → length s.visited < s.capacities.visited
+pub visited_room : (w : List ℕ) (s : Store) (more : ℕ) (r : Result (Unit {0}) Refusal) → r ≡ (Ok tt) → RoomFor w s more r → length s.visited < s.capacities.visited
 unfolding visit with_visited
 visited_room w s more r e q =
     let p : Pair = 0 ⊑ 0 in
@@ -101,14 +101,14 @@ break_room f u n = by_test (λ (s : Store). fitting s n ≡ fitting u n) (is_bro
 
 -- a bound, unless it repeats one
 module _ (w : List ℕ) (good : T (well_formed w)) (repeated : Bool) (more : ℕ) where
-  pub bound_repeats : repeated ≡ true → (r : StepRoom) → RoomFor w (store_of w) more r → RoomForBound w repeated more r
+  pub bound_repeats : repeated ≡ true → (r : Result (Unit {0}) Refusal) → RoomFor w (store_of w) more r → RoomForBound w repeated more r
   unfolding add_bound with_bounds
   bound_repeats t r q v side b e p =
       let z : repeats (bounds_in (bounds_all w) v side) b ≡ true = sym e ∙ t in
       rw z (q p)
 
   module _ (t : repeated ≡ false) where
-    pub lacks_bounds : (store_of w).capacities.bounds ≤ length (bounds_all w) → RoomForBound w repeated more (Lacks (NoRoom bounds_region))
+    pub lacks_bounds : (store_of w).capacities.bounds ≤ length (bounds_all w) → RoomForBound w repeated more (Err (NoRoom bounds_region))
     unfolding fitting first_lacking deep_enough visit with_visited add_bound with_bounds
     lacks_bounds h v side b e p =
         let k = (sound_table w good).store.held in
@@ -116,7 +116,7 @@ module _ (w : List ℕ) (good : T (well_formed w)) (repeated : Bool) (more : ℕ
         let r : Bound = record { variable = v; side = side; bound = b } in
         sym (rw (z, le-ltb _ _ k.entries, le-ltb _ _ k.fields, lt-ltb (store_of w).capacities.bounds (length (bounds_all w ++ (r ∷ []))) (omega (arith, one_more (bounds_all w) r))))
 
-    pub bound_more : length (bounds_all w) < (store_of w).capacities.bounds → (r : StepRoom) → RoomFor w (store_of w) more r → RoomForBound w repeated more r
+    pub bound_more : length (bounds_all w) < (store_of w).capacities.bounds → (r : Result (Unit {0}) Refusal) → RoomFor w (store_of w) more r → RoomForBound w repeated more r
     unfolding fitting first_lacking deep_enough visit with_visited add_bound with_bounds
     bound_more h r q v side b e p =
         let k = (sound_table w good).store.held in

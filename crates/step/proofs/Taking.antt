@@ -1,4 +1,5 @@
 -- What a step answers and leaves: refused, failed, or gone on. Assumes nothing.
+use Rattle.std.specs.Prelude.{Err, Ok, Result}
 use Prim.Native.Nat.{ℕ, ◌+◌}
 use native.Mathlib.Omega.{arith}
 use mathlib.Core.Path.{◌≡◌, sym, ap, subst, ◌∙◌}
@@ -15,8 +16,6 @@ use Rattle.image.proofs.Laying.{seen}
 use Rattle.step.specs.Taken.{before_last, room_in, RoomFor, taken_by, taken}
 use Rattle.step.specs.declared.Step.{Step}
 use Rattle.step.specs.declared.Step.TheVariants.{Went, Failed, Refused}
-use Rattle.step.specs.declared.StepRoom.{StepRoom}
-use Rattle.step.specs.declared.StepRoom.TheVariants.{Enough, Lacks}
 use Rattle.step.proofs.Rooms.{break_room}
 
 abbrev pub Takes : List ℕ → Outcome Store Pair Failure → Step → List ℕ → Type 0
@@ -36,17 +35,17 @@ module _ (w : List ℕ) (u : Store) (v : List ℕ) where
   failed f e s = (rw e, rw e s.is)
 
 -- a failure: the visited pair is kept
-module _ (w : List ℕ) (p : Pair) (f : Failure) (r : StepRoom) where
+module _ (w : List ℕ) (p : Pair) (f : Failure) (r : Result (Unit {0}) Refusal) where
   fail_room : RoomFor w (store_of w) 0 r → room_for (length (before_last w)) (failing (visit p (store_of w)) f) ≡ room_in r
   unfolding room_for failing
   fail_room q =
       let z : length (before_last w) + 0 ≡ length (before_last w) = omega arith in
       break_room f (visit p (store_of w)) (length (before_last w)) ∙ ap (λ (n : ℕ). fitting (visit p (store_of w)) n) (sym z) ∙ sym (q p)
 
-  pub fail_refused : (x : Refusal) → r ≡ Lacks x → RoomFor w (store_of w) 0 r → Takes w (failing (visit p (store_of w)) f) (Refused x) w
+  pub fail_refused : (x : Refusal) → r ≡ Err x → RoomFor w (store_of w) 0 r → Takes w (failing (visit p (store_of w)) f) (Refused x) w
   fail_refused x e q = refused w (failing (visit p (store_of w)) f) x (fail_room q ∙ ap room_in e)
 
-  pub fail_told : r ≡ Enough → RoomFor w (store_of w) 0 r → (v u x : List ℕ) → Shows v (visited_to w (visited_in w ++ (p ∷ []))) → Shows u (pending_to v [])
+  pub fail_told : r ≡ (Ok tt) → RoomFor w (store_of w) 0 r → (v u x : List ℕ) → Shows v (visited_to w (visited_in w ++ (p ∷ []))) → Shows u (pending_to v [])
       → Shows x (table_of (fill_break f (store_of u)) (pending_in u)) → Takes w (failing (visit p (store_of w)) f) (Failed f) x
   unfolding failing visit
   fail_told e q v u x sv su sx =

@@ -1,4 +1,5 @@
 -- Making sup or the negation of d: what the code knows at each place, and what it comes to at each way out. Assumes nothing.
+use Rattle.std.specs.Prelude.{None, Option, Some}
 use Prim.Native.Nat.{ℕ, ◌+◌, ◌*◌, ◌≤◌, ◌<◌}
 use native.Mathlib.Omega.{arith}
 use mathlib.Core.Path.{◌≡◌, refl, sym, ap, subst, ◌∙◌}
@@ -20,8 +21,6 @@ use Rattle.image.specs.Shown.{Shows, Shown, store_of, entries_of, fields_in, ent
 use Rattle.image.specs.Records.{entry_made}
 use Rattle.image.proofs.Laying.{seen, shown, shown_laid}
 use Rattle.type_table.specs.Made.{entries_in, Negatable, NegatedIn}
-use Rattle.type_table.specs.declared.Negated.{Negated}
-use Rattle.type_table.specs.declared.Negated.TheVariants as N
 use Rattle.type_table.proofs.WaysOut.{spread_both}
 use Rattle.type_table.proofs.Undoing.{seen_entries}
 use Rattle.type_table.proofs.Negating.{full_lacks, made_fits, made_number, made_shows}
@@ -51,16 +50,16 @@ module _ (w : List ℕ) (sup d : ℕ) (pre : Negatable w d) (good : Good (store_
   deep : Deep (entries_of w) d (make_neg (entries_of w) d)
   deep = neg_deep (entries_of w) (fields_in w) (store_of w).names d pre.good shallow pre.below
 
-  pub full_negation : (a : Negated) (v : List ℕ) → NegatedIn (table w) d a v → a ≡ N.Full → TargetIn (table w) sup d N.Full v
+  pub full_negation : (a : Option ℕ) (v : List ℕ) → NegatedIn (table w) d a v → a ≡ None → TargetIn (table w) sup d None v
   full_negation a v r f =
-      let b : NegatedIn (table w) d N.Full v = subst (λ (c : Negated). NegatedIn (table w) d c v) f r in
+      let b : NegatedIn (table w) d None v = subst (λ (c : Option ℕ). NegatedIn (table w) d c v) f r in
       let l = full_lacks (table w) d v b in
       record { done = λ le. absurd (omega (arith, target_longer sup (make_neg (entries_of w) d))); full = λ gt. b.full l }
 
   -- the negation is made
-  module _ (a : Negated) (v : List ℕ) (r : NegatedIn (table w) d a v) (n : ℕ) (f : a ≡ N.Number n) where
-    some : NegatedIn (table w) d (N.Number n) v
-    some = subst (λ (c : Negated). NegatedIn (table w) d c v) f r
+  module _ (a : Option ℕ) (v : List ℕ) (r : NegatedIn (table w) d a v) (n : ℕ) (f : a ≡ Some n) where
+    some : NegatedIn (table w) d (Some n) v
+    some = subst (λ (c : Option ℕ). NegatedIn (table w) d c v) f r
 
     number_is : n ≡ (make_neg (entries_of w) d).number
     number_is = made_number (table w) d v n some
@@ -104,7 +103,7 @@ module _ (w : List ℕ) (sup d : ℕ) (pre : Negatable w d) (good : Good (store_
     member_is : (t : Bool) → t ≡ union_member (entries_of v) n sup → union_member (make_neg (entries_of w) d).after (make_neg (entries_of w) d).number sup ≡ t
     member_is t e = sym (rw (same, number_is) at e)
 
-    pub target_old : (t : Bool) → t ≡ union_member (entries_of v) n sup → t ≡ true → TargetIn (table w) sup d (N.Number sup) v
+    pub target_old : (t : Bool) → t ≡ union_member (entries_of v) n sup → t ≡ true → TargetIn (table w) sup d (Some sup) v
     target_old t e h =
         let q = target_sup sup (make_neg (entries_of w) d) (member_is t e ∙ h) in
         record {
@@ -122,7 +121,7 @@ module _ (w : List ℕ) (sup d : ℕ) (pre : Negatable w d) (good : Good (store_
           ap (λ (j : Making). length j.after) made ∙ new_length (make_neg (entries_of w) d).after union sup (make_neg (entries_of w) d).number
           ∙ ap (λ (l : List Entry). length l + 1) (sym same)
 
-      pub target_none : cap ≤ number → TargetIn (table w) sup d N.Full v
+      pub target_none : cap ≤ number → TargetIn (table w) sup d None v
       target_none le = record {
         done = λ l. absurd (omega (arith, size, same_room));
         full = λ gt. (refl, ((make_neg (entries_of w) d).after, (shows, record { longer = grown.least; undo = grown.undo })));
@@ -132,7 +131,7 @@ module _ (w : List ℕ) (sup d : ℕ) (pre : Negatable w d) (good : Good (store_
       target_room lt = (shown shows, omega arith)
 
       pub target_new : number < cap → (x y : ℕ) → x ≡ spread_at (entries_of v) sup → y ≡ spread_at (entries_of v) n
-          → (u : List ℕ) → Shows u (entries_to v (entries_of v ++ (entry_made union sup n 0 0 (1 + x + y) ∷ []))) → TargetIn (table w) sup d (N.Number number) u
+          → (u : List ℕ) → Shows u (entries_to v (entries_of v ++ (entry_made union sup n 0 0 (1 + x + y) ∷ []))) → TargetIn (table w) sup d (Some number) u
       unfolding new_entry put_entry with_entries
       target_new lt x y ex ey u su =
           let us : List Entry = (make_neg (entries_of w) d).after in
@@ -145,6 +144,6 @@ module _ (w : List ℕ) (sup d : ℕ) (pre : Negatable w d) (good : Good (store_
           (subst (λ (i : ℕ). Shows u (entries_in (table w) (us ++ (entry_made union sup i 0 0 (1 + x + y) ∷ [])))) number_is b) in
           let z : number ≡ length us = ne ∙ ap length same in
           record {
-            done = λ le. rw made (ap (λ (i : ℕ). N.Number i) z, g);
+            done = λ le. rw made (ap (λ (i : ℕ). Some i) z, g);
             full = λ gt. absurd (omega (arith, size, same_room));
           }

@@ -1,5 +1,5 @@
 -- What a step answers and leaves, by the outcome of its pair's rule and the room for it. Assumes nothing.
-use Rattle.std.specs.Prelude.{ℕ, ◌+◌, ◌-◌, ◌≡◌, List, [], ◌++◌, reverse, Bool, length, take}
+use Rattle.std.specs.Prelude.{ℕ, ◌+◌, ◌-◌, ◌≡◌, List, [], ◌++◌, reverse, Bool, length, take, Err, Ok, Result}
 use Rattle.instalments.specs.Machine.{Outcome, fails, goes, Room, enough, lacks}
 use Rattle.model.specs.Format.{asked}
 use Rattle.model.specs.Table.{Pair, Store, Table, table_of, graph_of, with_bounds}
@@ -15,8 +15,6 @@ use Rattle.constrain.specs.Next.{effect_of}
 use Rattle.constrain.specs.declared.Next.{Next}
 use Rattle.step.specs.declared.Step.{Step}
 use Rattle.step.specs.declared.Step.TheVariants.{Went, Failed, Refused}
-use Rattle.step.specs.declared.StepRoom.{StepRoom}
-use Rattle.step.specs.declared.StepRoom.TheVariants.{Enough, Lacks}
 
 -- "A step takes one pair off the end of pending": that pair, and what stands before it
 abbrev pub last_pair : List ℕ → Pair
@@ -29,16 +27,16 @@ before_last w = take (length (pending_in w) - 1) (pending_in w)
 abbrev pub Midway : List ℕ → Table → Type 0
 Midway w t = ShowsAs asked w t
 
-abbrev pub room_in : StepRoom → Room Refusal
-room_in Enough = enough
-room_in (Lacks r) = lacks r
+abbrev pub room_in : Result (Unit {0}) Refusal → Room Refusal
+room_in (Ok tt) = enough
+room_in (Err r) = lacks r
 
 -- the room for a store that a step would leave, with its pair visited, and for so many consequences
-abbrev pub RoomFor : List ℕ → Store → ℕ → StepRoom → Type 0
+abbrev pub RoomFor : List ℕ → Store → ℕ → Result (Unit {0}) Refusal → Type 0
 RoomFor w s more r = (p : Pair) → room_in r ≡ fitting (visit p s) (length (before_last w) + more)
 
 -- the same where it adds a bound, unless that repeats one
-abbrev pub RoomForBound : List ℕ → Bool → ℕ → StepRoom → Type 0
+abbrev pub RoomForBound : List ℕ → Bool → ℕ → Result (Unit {0}) Refusal → Type 0
 RoomForBound w repeated more r = (v side b : ℕ) → repeated ≡ repeats (bounds_in (bounds_all w) v side) b → RoomFor w (with_bounds (add_bound v side b (bounds_all w)) (store_of w)) more r
 
 -- what it answers, and the words after

@@ -1,5 +1,6 @@
 -- A call by its tests, one after the other: what it says and leaves where a test refuses, and what is left to do where it does not.
 -- Assumes nothing.
+use Rattle.std.specs.Prelude.{Err, Ok, Result}
 use Prim.Native.Nat.{ℕ, ◌≤◌, ◌<◌}
 use mathlib.Core.Path.{◌≡◌, refl, sym, ap, ◌∙◌}
 use mathlib.Core.List.{List, []}
@@ -15,8 +16,6 @@ use Rattle.model.specs.Calls.{Response, Turn, refuse, tell, leave, response_of, 
 use Rattle.model.specs.Told.{Told, done, told_refusal}
 use Rattle.model.specs.declared.Refusal.{Refusal}
 use Rattle.model.specs.declared.Refusal.TheVariants.{Busy}
-use Rattle.model.specs.declared.Admission.{Admission}
-use Rattle.model.specs.declared.Admission.TheVariants.{Good, Unfit}
 use Rattle.laws.proofs.Replies.{refused_by, passed_by, good_formed, perform_formed, perform_unfit}
 
 -- a reply by its two parts
@@ -38,14 +37,14 @@ pub as_same : {a : Told} {v : List ℕ} {r s : Response} → r ≡ s → Replies
 as_same e k = record { says = k.says ∙ ap (λ (x : Response). x.says) e; leaves = k.leaves ∙ ap (λ (x : Response). x.words) e }
 
 -- the two sides of an image's admission: x is what `formed::admit` answers
-module _ (w : List ℕ) {x : Admission} (e : x ≡ admission w) where
-  pub unfit : (c : Call) {r : Refusal} → x ≡ Unfit r → response_of w (tell (denies c r)) ≡ perform c w
+module _ (w : List ℕ) {x : (Result (Unit {0}) Refusal)} (e : x ≡ admission w) where
+  pub unfit : (c : Call) {r : Refusal} → x ≡ Err r → response_of w (tell (denies c r)) ≡ perform c w
   unfit c {r} u = sym (perform_unfit c w r (sym e ∙ u))
 
-  pub good_image : x ≡ Good → T (well_formed w)
+  pub good_image : x ≡ (Ok tt) → T (well_formed w)
   good_image g = good_formed w (sym e ∙ g)
 
-  pub good : (c : Call) → x ≡ Good → response_of w (turn_of c w (table w)) ≡ perform c w
+  pub good : (c : Call) → x ≡ (Ok tt) → response_of w (turn_of c w (table w)) ≡ perform c w
   good c g = sym (perform_formed c w (good_image g))
 
 -- a test of a call, and what is done where it passes: refused, or gone on with

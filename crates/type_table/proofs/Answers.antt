@@ -1,4 +1,5 @@
 -- The answer of making Neg(n), and the words it leaves: a refusal leaves every word as found. Assumes nothing.
+use Rattle.std.specs.Prelude.{None, Option, Some}
 use Prim.Native.Nat.{ℕ, ◌≤◌, ◌<◌}
 use native.Mathlib.Omega.{arith}
 use mathlib.Core.Path.{◌≡◌, sym, ap, subst, ◌∙◌}
@@ -21,8 +22,6 @@ use Rattle.laws.proofs.Negation.{Grown, neg_grown, shallow_low}
 use Rattle.image.specs.Shown.{Shows, Shown, store_of, entries_of, fields_in, entries_to}
 use Rattle.image.proofs.Laying.{formed_shown, seen, shown}
 use Rattle.type_table.specs.Made.{entries_in, Negatable, NegatedIn}
-use Rattle.type_table.specs.declared.Negated.{Negated}
-use Rattle.type_table.specs.declared.Negated.TheVariants as N
 use Rattle.type_table.proofs.Replies.{made_full, made_deep, made_done, neg_too_deep}
 use Rattle.type_table.proofs.WaysOut.{MakesReply, replied}
 use Rattle.type_table.proofs.Undoing.{seen_entries}
@@ -58,11 +57,11 @@ module _ (w : List ℕ) (n : ℕ) (good : T (well_formed w)) (below : n < length
   deep : too_deep (make_neg (entries_of w) n).after ≡ ltb spread_most (spread_at (make_neg (entries_of w) n).after (make_neg (entries_of w) n).number)
   deep = neg_too_deep (entries_of w) (fields_in w) (store_of w).names n (sound_table w good).store.good.entries (sound_table w good).store.shallow below
 
-  module _ (old : ℕ) (e : old ≡ length (entries_of w)) (a : Negated) (v : List ℕ) (d : NegatedIn (table w) n a v) where
+  module _ (old : ℕ) (e : old ≡ length (entries_of w)) (a : Option ℕ) (v : List ℕ) (d : NegatedIn (table w) n a v) where
     -- there was no room
-    module _ (f : a ≡ N.Full) where
-      none : NegatedIn (table w) n N.Full v
-      none = subst (λ (b : Negated). NegatedIn (table w) n b v) f d
+    module _ (f : a ≡ None) where
+      none : NegatedIn (table w) n None v
+      none = subst (λ (b : Option ℕ). NegatedIn (table w) n b v) f d
 
       pub full_undo : Shown v × (old ≤ length (entries_of v))
       full_undo =
@@ -78,9 +77,9 @@ module _ (w : List ℕ) (n : ℕ) (good : T (well_formed w)) (below : n < length
           (q.0, words_back w v u b.0 old good b.1.0 b.1.1.undo e su ∙ q.1)
 
     -- all is made
-    module _ (k : ℕ) (f : a ≡ N.Number k) where
-      some : NegatedIn (table w) n (N.Number k) v
-      some = subst (λ (b : Negated). NegatedIn (table w) n b v) f d
+    module _ (k : ℕ) (f : a ≡ Some k) where
+      some : NegatedIn (table w) n (Some k) v
+      some = subst (λ (b : Option ℕ). NegatedIn (table w) n b v) f d
 
       number : k ≡ (make_neg (entries_of w) n).number
       number = made_number (table w) n v k some

@@ -1,4 +1,5 @@
 -- Making an attrset: its fields put one by one, then its entry. Assumes nothing.
+use Rattle.std.specs.Prelude.{Option}
 use Prim.Native.Nat.{ℕ, zero, suc, ◌+◌, ◌*◌, ◌≤◌, ◌<◌, ◌/◌}
 use native.Mathlib.Omega.{arith}
 use native.Mathlib.Numerals.{add-one}
@@ -18,7 +19,6 @@ use Rattle.model.specs.Making.{Making, spread_of, put_entry, too_deep}
 use Rattle.model.specs.Room.{first_lacking, deep_enough, fitting}
 use Rattle.model.specs.Calls.{Response, response_of, leave_by, leave_if_room, made_turn, field_list, new_attrset, dynamic_type, dynamic_bit}
 use Rattle.model.specs.Told.{Told, done, refused, bit}
-use Rattle.model.specs.declared.Dynamic.{Dynamic}
 use Rattle.laws.proofs.Entries.{more_length}
 use Rattle.laws.proofs.Formed.{sound_table}
 use Rattle.laws.proofs.Regions.{read_length}
@@ -106,7 +106,7 @@ unfolding with_fields
 entry_room w v fs sv h = subst (λ (t : Table). length t.store.entries < t.store.capacities.entries) (sym (seen sv)) h
 
 -- what is told
-module _ (w l : List ℕ) (wide : Bool) (d : Dynamic) where
+module _ (w l : List ℕ) (wide : Bool) (d : Option ℕ) where
   abbrev pub Replied : Told → List ℕ → Type 0
   Replied says v = (says ≡ (attrset_response w l wide d).says) × (v ≡ (attrset_response w l wide d).words)
 

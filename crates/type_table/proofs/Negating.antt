@@ -1,4 +1,5 @@
 -- What is known at each place of the code that makes Neg(n). Assumes nothing.
+use Rattle.std.specs.Prelude.{None, Option, Some}
 use Prim.Native.Nat.{ℕ, suc, ◌+◌, ◌-◌, ◌≤◌, ◌<◌}
 use native.Mathlib.Omega.{arith}
 use mathlib.Core.Path.{◌≡◌, refl, sym, ap, subst, ◌∙◌}
@@ -17,13 +18,11 @@ use Rattle.laws.proofs.Negation.{Grown, neg_grown, Deep, deep_within}
 use Rattle.image.specs.Shown.{Shows, Shown, store_of, entries_of, fields_in}
 use Rattle.image.proofs.Laying.{seen, shown}
 use Rattle.type_table.specs.Made.{entries_in, Added, Negatable, UndoesTo, NegatedIn}
-use Rattle.type_table.specs.declared.Negated.{Negated}
-use Rattle.type_table.specs.declared.Negated.TheVariants as N
 use Rattle.type_table.proofs.Rounds.{kind_known_lem, neg_cached, neg_twice, neg_fresh, neg_over}
 use Rattle.type_table.proofs.WaysOut.{spread_inner, spread_both}
 use Rattle.type_table.proofs.Undoing.{seen_entries}
 
-pub never : (c : ℕ) → N.Full ≡ N.Number c → ⊥
+pub never : (c : ℕ) → None ≡ Some c → ⊥
 never c e = let z : ◌≡◌ {A = ℕ} 0 1 = cc in omega arith
 
 cached_length : (es : List Entry) (n kind x y : ℕ) → length (cached_as n (new_entry es kind x y)).after ≡ length es + 1
@@ -36,44 +35,44 @@ module _ (t : Table) (n : ℕ) (v : List ℕ) where
   abbrev m : Making
   m = make_neg t.store.entries n
 
-  pub full_lacks : NegatedIn t n N.Full v → t.store.capacities.entries < length (make_neg t.store.entries n).after
+  pub full_lacks : NegatedIn t n None v → t.store.capacities.entries < length (make_neg t.store.entries n).after
   full_lacks a =
       ⊎_elim
       (λ (l : t.store.capacities.entries < length m.after). l)
       (λ (l : length m.after ≤ t.store.capacities.entries). absurd (never _ (a.done l).0))
       (lt_or_ge t.store.capacities.entries (length m.after))
 
-  pub made_fits : (p : ℕ) → NegatedIn t n (N.Number p) v → length (make_neg t.store.entries n).after ≤ t.store.capacities.entries
+  pub made_fits : (p : ℕ) → NegatedIn t n (Some p) v → length (make_neg t.store.entries n).after ≤ t.store.capacities.entries
   made_fits p a =
       ⊎_elim
       (λ (l : t.store.capacities.entries < length m.after). absurd (never p (sym (a.full l).0)))
       (λ (l : length m.after ≤ t.store.capacities.entries). l)
       (lt_or_ge t.store.capacities.entries (length m.after))
 
-  pub made_number : (p : ℕ) → NegatedIn t n (N.Number p) v → p ≡ (make_neg t.store.entries n).number
-  made_number p a = let q : N.Number p ≡ N.Number m.number = (a.done (made_fits p a)).0 in cc
+  pub made_number : (p : ℕ) → NegatedIn t n (Some p) v → p ≡ (make_neg t.store.entries n).number
+  made_number p a = let q : Some p ≡ Some m.number = (a.done (made_fits p a)).0 in cc
 
-  pub made_shows : (p : ℕ) → NegatedIn t n (N.Number p) v → Shows v (entries_in t (make_neg t.store.entries n).after)
+  pub made_shows : (p : ℕ) → NegatedIn t n (Some p) v → Shows v (entries_in t (make_neg t.store.entries n).after)
   made_shows p a = (a.done (made_fits p a)).1
 
 -- nothing is new, or an entry of its own
 module _ (w : List ℕ) (n : ℕ) (r : Negatable w n) where
-  give : (c : ℕ) → make_neg (entries_of w) n ≡ record { number = c; after = entries_of w } → NegatedIn (table w) n (N.Number c) w
+  give : (c : ℕ) → make_neg (entries_of w) n ≡ record { number = c; after = entries_of w } → NegatedIn (table w) n (Some c) w
   unfolding with_entries
   give c e = record {
     done = λ le. rw e (refl, r.shows);
     full = λ gt. let z : length (make_neg (entries_of w) n).after ≡ length (entries_of w) = ap (λ (m : Making). length m.after) e in absurd (omega (arith, r.shows.within.held.entries));
   }
 
-  pub cached_back : (cached : ℕ) → cached ≡ (entry_at (entries_of w) n).negation → 0 < cached → NegatedIn (table w) n (N.Number (cached - 1)) w
+  pub cached_back : (cached : ℕ) → cached ≡ (entry_at (entries_of w) n).negation → 0 < cached → NegatedIn (table w) n (Some (cached - 1)) w
   cached_back cached e h = give (cached - 1) (neg_cached (entries_of w) (fields_in w) (store_of w).names n r.good r.below (cached - 1) (omega arith))
 
   pub twice_back : (cached kind x : ℕ) → cached ≡ (entry_at (entries_of w) n).negation → cached ≤ 0 → kind ≡ (entry_at (entries_of w) n).kind → neg ≤ kind → kind < inter
-      → x ≡ (entry_at (entries_of w) n).x → NegatedIn (table w) n (N.Number x) w
+      → x ≡ (entry_at (entries_of w) n).x → NegatedIn (table w) n (Some x) w
   twice_back cached kind x e z f l u q =
       rw q (give (entry_at (entries_of w) n).x (neg_twice (entries_of w) (fields_in w) (store_of w).names n r.good r.below (omega arith) (omega arith)))
 
-  pub fresh_back : (cached kind spread : ℕ) (a : Negated) (v : List ℕ) → cached ≡ (entry_at (entries_of w) n).negation → cached ≤ 0 → kind ≡ (entry_at (entries_of w) n).kind → kind < neg
+  pub fresh_back : (cached kind spread : ℕ) (a : Option ℕ) (v : List ℕ) → cached ≡ (entry_at (entries_of w) n).negation → cached ≤ 0 → kind ≡ (entry_at (entries_of w) n).kind → kind < neg
       → spread ≡ spread_at (entries_of w) n → Added (table w) neg n 0 (1 + spread) n a v → NegatedIn (table w) n a v
   unfolding cached_as new_entry put_entry with_entries
   fresh_back cached kind spread a v e z f l q d =
@@ -183,20 +182,20 @@ module _ (w : List ℕ) (n kind x y : ℕ) (s : Parts w n kind x y) where
   )
 
   -- its answer, in the words of the model
-  first_of : (a b : Negated) (v : List ℕ) → NegatedIn (table w) x a v → a ≡ b → NegatedIn (table w) (entry_at (entries_of w) n).x b v
-  first_of a b v d e = subst (λ (j : ℕ). NegatedIn (table w) j b v) s.x_is (subst (λ (c : Negated). NegatedIn (table w) x c v) e d)
+  first_of : (a b : Option ℕ) (v : List ℕ) → NegatedIn (table w) x a v → a ≡ b → NegatedIn (table w) (entry_at (entries_of w) n).x b v
+  first_of a b v d e = subst (λ (j : ℕ). NegatedIn (table w) j b v) s.x_is (subst (λ (c : Option ℕ). NegatedIn (table w) x c v) e d)
 
-  pub fail_one : (a : Negated) (v : List ℕ) → NegatedIn (table w) x a v → a ≡ N.Full → NegatedIn (table w) n N.Full v
+  pub fail_one : (a : Option ℕ) (v : List ℕ) → NegatedIn (table w) x a v → a ≡ None → NegatedIn (table w) n None v
   fail_one a v d e =
-      let b = first_of a N.Full v d e in
+      let b = first_of a None v d e in
       let l = full_lacks (table w) (entry_at (entries_of w) n).x v b in
       record { done = λ le. absurd (omega (arith, size, grown_y.least)); full = λ gt. b.full l }
 
-  pub done_one : (a : Negated) (v : List ℕ) (p : ℕ) → NegatedIn (table w) x a v → a ≡ N.Number p → First w n y p v
+  pub done_one : (a : Option ℕ) (v : List ℕ) (p : ℕ) → NegatedIn (table w) x a v → a ≡ Some p → First w n y p v
   unfolding with_entries
   done_one a v p d e =
       let us : List Entry = (left (entries_of w) n).after in
-      let b = first_of a (N.Number p) v d e in
+      let b = first_of a (Some p) v d e in
       let sv : Shows v (entries_in (table w) us) = made_shows (table w) (entry_at (entries_of w) n).x v p b in
       let t : table v ≡ entries_in (table w) us = seen sv in
       record {
@@ -213,16 +212,16 @@ module _ (w : List ℕ) (n kind x y : ℕ) (s : Parts w n kind x y) where
       }
 
   module _ (p : ℕ) (v : List ℕ) (f : First w n y p v) where
-    second_of : (a b : Negated) (u : List ℕ) → NegatedIn (table v) y a u → a ≡ b → NegatedIn (entries_in (table w) (left (entries_of w) n).after) (entry_at (entries_of w) n).y b u
+    second_of : (a b : Option ℕ) (u : List ℕ) → NegatedIn (table v) y a u → a ≡ b → NegatedIn (entries_in (table w) (left (entries_of w) n).after) (entry_at (entries_of w) n).y b u
     second_of a b u d e =
         subst (λ (j : ℕ). NegatedIn (entries_in (table w) (left (entries_of w) n).after) j b u) s.y_is
-        (subst (λ (t : Table). NegatedIn t y b u) (seen f.shows) (subst (λ (c : Negated). NegatedIn (table v) y c u) e d))
+        (subst (λ (t : Table). NegatedIn t y b u) (seen f.shows) (subst (λ (c : Option ℕ). NegatedIn (table v) y c u) e d))
 
-    pub fail_two : (a : Negated) (u : List ℕ) → NegatedIn (table v) y a u → a ≡ N.Full → NegatedIn (table w) n N.Full u
+    pub fail_two : (a : Option ℕ) (u : List ℕ) → NegatedIn (table v) y a u → a ≡ None → NegatedIn (table w) n None u
     unfolding with_entries
     fail_two a u d e =
         let t : Table = entries_in (table w) (left (entries_of w) n).after in
-        let b = second_of a N.Full u d e in
+        let b = second_of a None u d e in
         let l = full_lacks t (entry_at (entries_of w) n).y u b in
         let k = (b.full l).1 in
         let back : UndoesTo (entries_of w) k.0 = record {
@@ -234,12 +233,12 @@ module _ (w : List ℕ) (n kind x y : ℕ) (s : Parts w n kind x y) where
           full = λ gt. (refl, (k.0, (k.1.0, back)));
         }
 
-    pub done_two : (a : Negated) (u : List ℕ) (q : ℕ) → NegatedIn (table v) y a u → a ≡ N.Number q → Second w n p q u
+    pub done_two : (a : Option ℕ) (u : List ℕ) (q : ℕ) → NegatedIn (table v) y a u → a ≡ Some q → Second w n p q u
     unfolding with_entries
     done_two a u q d e =
         let t : Table = entries_in (table w) (left (entries_of w) n).after in
         let us : List Entry = (right (entries_of w) n).after in
-        let b = second_of a (N.Number q) u d e in
+        let b = second_of a (Some q) u d e in
         let su : Shows u (entries_in (table w) us) = made_shows t (entry_at (entries_of w) n).y u q b in
         let num : q ≡ (right (entries_of w) n).number = made_number t (entry_at (entries_of w) n).y u q b in
         let g : entries_of u ≡ us = seen_entries (table w) u us su in
@@ -257,7 +256,7 @@ module _ (w : List ℕ) (n kind x y : ℕ) (s : Parts w n kind x y) where
         }
 
   -- both are made, and the whole is, or finds no room
-  pub done_both : (p q : ℕ) (v : List ℕ) → Second w n p q v → (a : Negated) (u : List ℕ) (i j : ℕ) → i ≡ spread_at (entries_of v) p → j ≡ spread_at (entries_of v) q
+  pub done_both : (p q : ℕ) (v : List ℕ) → Second w n p q v → (a : Option ℕ) (u : List ℕ) (i j : ℕ) → i ≡ spread_at (entries_of v) p → j ≡ spread_at (entries_of v) q
       → Added (table v) (inter + union - kind) p q (1 + i + j) n a u → NegatedIn (table w) n a u
   unfolding cached_as new_entry put_entry with_entries
   done_both p q v f a u i j ei ej d =

@@ -1,4 +1,5 @@
 -- What making an entry comes to, at each way out of the code. Assumes nothing.
+use Rattle.std.specs.Prelude.{None, Some}
 use Prim.Native.Nat.{ℕ, suc, ◌+◌, ◌≤◌, ◌<◌}
 use native.Mathlib.Omega.{arith}
 use mathlib.Core.Path.{◌≡◌, refl, sym, ap, subst, ◌∙◌}
@@ -20,7 +21,6 @@ use Rattle.image.specs.Shown.{Shows, Shown, store_of, entries_of, entries_to}
 use Rattle.image.specs.Records.{entry_made}
 use Rattle.image.proofs.Laying.{formed_shown, seen}
 use Rattle.type_table.specs.Made.{made_response, entries_in, Added}
-use Rattle.type_table.specs.declared.Negated.TheVariants as N
 use Rattle.type_table.proofs.Replies.{made_full, made_deep, made_done, put_too_deep}
 
 -- the spread by the kind
@@ -74,7 +74,7 @@ module _ (w : List ℕ) (kind x y : ℕ) (good : T (well_formed w)) where
 
 -- an entry added and cached
 module _ (w : List ℕ) (kind x y spread n number room : ℕ) (shows : Shown w) (e : number ≡ length (entries_of w)) (r : room ≡ (store_of w).capacities.entries) where
-  pub add_full : room ≤ number → Added (table w) kind x y spread n N.Full w
+  pub add_full : room ≤ number → Added (table w) kind x y spread n None w
   add_full h = record { done = λ l. absurd (omega arith); full = λ l. (refl, shows) }
 
   module _ (v : List ℕ) (sv : Shows v (entries_to w (entries_of w ++ (entry_made kind x y 0 0 spread ∷ [])))) where
@@ -82,7 +82,7 @@ module _ (w : List ℕ) (kind x y spread n number room : ℕ) (shows : Shown w) 
     unfolding with_entries
     add_index h = omega (arith, ap (λ (t : Table). length t.store.entries) (seen sv), more_length (entries_of w) (entry_made kind x y 0 0 spread))
 
-    pub add_done : number < room → (u : List ℕ) → Shows u (entries_to v (changed (with_negation (number + 1)) (entries_of v) n)) → Added (table w) kind x y spread n (N.Number number) u
+    pub add_done : number < room → (u : List ℕ) → Shows u (entries_to v (changed (with_negation (number + 1)) (entries_of v) n)) → Added (table w) kind x y spread n (Some number) u
     unfolding with_entries
     add_done h u su =
         let es : List Entry = entries_of w ++ (entry_made kind x y 0 0 spread ∷ []) in
@@ -90,6 +90,6 @@ module _ (w : List ℕ) (kind x y spread n number room : ℕ) (shows : Shown w) 
         let a : Shows u (entries_to w (changed (with_negation (number + 1)) es n)) =
         subst (λ (t : Table). Shows u (entries_in t (changed (with_negation (number + 1)) t.store.entries n))) (seen sv) su in
         record {
-          done = λ l. (ap (λ (i : ℕ). N.Number i) e, rw q a);
+          done = λ l. (ap (λ (i : ℕ). Some i) e, rw q a);
           full = λ l. absurd (omega arith);
         }
