@@ -1,76 +1,76 @@
 // Entries as nodes, each followed by its components.
-use crate::{edges, header};
-use printing::{print, print_one, print_two, print_word};
+use crate::Drawing;
 use std::io;
 use std::io::Write;
-use table_words::{entry_word, word};
+use table_words::{Entry, each};
 
-// Each entry.
-pub fn draw_entries<W: Write>(out: &mut W, list: &[u8], image: &[u32]) -> io::Result<()> {
-    let count = word(image, image::format::ENTRIES_COUNT_AT);
-    for n in 0..count {
-        draw_entry(out, list, image, n)?;
+impl<'a, W: Write> Drawing<'a, W> {
+    // Each entry, and its components.
+    pub fn draw_entries(&mut self) -> io::Result<()> {
+        for (n, entry) in (0..self.header.counts.entries).zip(each::<Entry>(self.image)) {
+            write!(self.out, "  {n} [label=\"{n} ")?;
+            self.print_what(entry)?;
+            write!(self.out, "\"")?;
+            self.print_look(n, entry)?;
+            writeln!(self.out, "];")?;
+            self.draw_components(n, entry)?;
+        }
+        Ok(())
     }
-    Ok(())
-}
 
-// An entry, and its components.
-fn draw_entry<W: Write>(out: &mut W, list: &[u8], image: &[u32], n: u32) -> io::Result<()> {
-    print_two(out, b"  % [label=\"% ", n, n)?;
-    print_what(out, image, n)?;
-    print(out, b"\"")?;
-    print_look(out, image, n)?;
-    print(out, b"];\n")?;
-    edges::draw_components(out, list, image, n)
-}
+    // What an entry is.
+    fn print_what(&mut self, entry: Entry) -> io::Result<()> {
+        match model::Entry::from(entry) {
+            model::Entry::Variable { level } => write!(self.out, "variable, level {level}"),
+            model::Entry::Primitive(p) => {
+                let name = primitive(p);
+                write!(self.out, "{name}")
+            }
+            model::Entry::List(_) => write!(self.out, "list"),
+            model::Entry::Lambda { .. } => write!(self.out, "lambda"),
+            model::Entry::AttrSet(attrset) => {
+                let open = if attrset.is_open { ", open" } else { "" };
+                write!(self.out, "attrset{open}")
+            }
+            model::Entry::Named { label, .. } => write!(self.out, "named, label {label}"),
+            model::Entry::Neg(_) => write!(self.out, "neg"),
+            model::Entry::Inter(..) => write!(self.out, "inter"),
+            model::Entry::Union(..) => write!(self.out, "union"),
+        }
+    }
 
-// What an entry is.
-fn print_what<W: Write>(out: &mut W, image: &[u32], n: u32) -> io::Result<()> {
-    let kind = entry_word(image, n, image::format::KIND_WORD);
-    let x = entry_word(image, n, image::format::X_WORD);
-    match kind {
-        image::format::VARIABLE => print_one(out, b"variable, level %", x),
-        image::format::PRIMITIVE => print_primitive(out, x),
-        image::format::ATTRSET => print_attrset(
-            out,
-            entry_word(image, n, image::format::FLAGS_WORD),
-        ),
-        image::format::NAMED => print_one(
-            out,
-            b"named, label %",
-            entry_word(image, n, image::format::Y_WORD),
-        ),
-        _ => print_word(out, b"||list|lambda|||neg|inter|union", kind),
+    // The node's shape, frames and colour.
+    fn print_look(&mut self, n: u32, entry: Entry) -> io::Result<()> {
+        if entry.kind == image::format::VARIABLE {
+            write!(
+                self.out,
+                ", shape=ellipse, style=filled, fillcolor=\"#fff4d6\""
+            )?;
+        }
+        if image::says_mark(entry.flags) {
+            write!(self.out, ", peripheries=2")?;
+        }
+        if self.is_broken_at(n) {
+            write!(
+                self.out,
+                ", color=\"#c00000\", fontcolor=\"#c00000\", penwidth=2"
+            )?;
+        }
+        Ok(())
     }
 }
 
 // A primitive's name.
-fn print_primitive<W: Write>(out: &mut W, p: u32) -> io::Result<()> {
-    print_word(out, b"Null|Bool|Int|Float|String|Path|Uri|Number", p)
-}
-
-// An attrset, closed or open.
-fn print_attrset<W: Write>(out: &mut W, flags: u32) -> io::Result<()> {
-    print(out, b"attrset")?;
-    if image::says_open(flags) {
-        print(out, b", open")?;
+fn primitive(p: u32) -> &'static str {
+    match p {
+        0 => "Null",
+        1 => "Bool",
+        2 => "Int",
+        3 => "Float",
+        4 => "String",
+        5 => "Path",
+        6 => "Uri",
+        7 => "Number",
+        _ => "",
     }
-    Ok(())
-}
-
-// The node's shape, frames and colour.
-fn print_look<W: Write>(out: &mut W, image: &[u32], n: u32) -> io::Result<()> {
-    if entry_word(image, n, image::format::KIND_WORD) == image::format::VARIABLE {
-        print(out, b", shape=ellipse, style=filled, fillcolor=\"#fff4d6\"")?;
-    }
-    if image::says_mark(entry_word(image, n, image::format::FLAGS_WORD)) {
-        print(out, b", peripheries=2")?;
-    }
-    if header::is_broken_at(image, n) {
-        print(
-            out,
-            b", color=\"#c00000\", fontcolor=\"#c00000\", penwidth=2",
-        )?;
-    }
-    Ok(())
 }

@@ -3,6 +3,7 @@ ghost use Rattle.std.specs.Prelude.{◌≡◌, ℕ, ◌-◌, ◌≤◌, slice_in
 ghost use Rattle.std.specs.Iterator.{at_most};
 
 use crate::{wide, word};
+use model::{Attrset, Dynamic};
 use std::array;
 use std::marker::PhantomData;
 
@@ -57,6 +58,43 @@ impl Stored for Entry {
             spread,
             negation,
         }
+    }
+}
+
+// What the words of an entry say, by its kind; the last kind is a union's.
+impl From<Entry> for model::Entry {
+    fn from(e: Entry) -> model::Entry {
+        match e.kind {
+            image::format::VARIABLE => model::Entry::Variable { level: e.x },
+            image::format::PRIMITIVE => model::Entry::Primitive(e.x),
+            image::format::LIST => model::Entry::List(e.x),
+            image::format::LAMBDA => model::Entry::Lambda {
+                param: e.x,
+                body: e.y,
+            },
+            image::format::ATTRSET => model::Entry::AttrSet(Attrset {
+                first: e.x,
+                count: e.y,
+                is_open: image::says_open(e.flags),
+                dynamic: dynamic(e),
+            }),
+            image::format::NAMED => model::Entry::Named {
+                inner: e.x,
+                label: e.y,
+            },
+            image::format::NEG => model::Entry::Neg(e.x),
+            image::format::INTER => model::Entry::Inter(e.x, e.y),
+            _ => model::Entry::Union(e.x, e.y),
+        }
+    }
+}
+
+// An attrset's dynamic type.
+fn dynamic(e: Entry) -> Dynamic {
+    if image::says_dynamic(e.flags) {
+        Dynamic::Present(e.z)
+    } else {
+        Dynamic::Absent
     }
 }
 
