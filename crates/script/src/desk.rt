@@ -1,56 +1,54 @@
 // What the program keeps beside the table: settings, label words, and the names of the list that was given.
-ghost use Rattle.std.specs.Prelude.{◌≡◌, length};
+ghost use Rattle.std.specs.Prelude.{◌≡◌, [], None};
 
-// The line that is run, and how many were wrong.
-pub const LINE: usize = 0;
+use std::alloc::Global;
 
-pub const WRONG: usize = 1;
+// Words, names and labels stand in the script, which lives longer.
+#[derive(Drop)]
+pub struct Desk<'a> {
+    // What the lists below are made with.
+    pub alloc: Global,
 
-// How many words are lent, how many bytes the name list has, and how many label words there are.
-pub const WORDS: usize = 2;
+    // The line that is run, and how many were wrong.
+    pub line: u32,
+    pub wrong: u32,
 
-pub const LIST: usize = 3;
+    // The limit that questions have, if they have one; whether it is left aside.
+    pub limit: Option<u32>,
+    pub is_plain: bool,
 
-pub const LABELS: usize = 4;
+    // Whether lines are shown, and the clock at the last `time`.
+    pub echo: bool,
+    pub clock: u32,
 
-// How many names were given.
-pub const GIVEN: usize = 5;
+    // The names that were given, in their order; none where a table has its own field names.
+    pub given: Vec<&'a [u8]>,
 
-// How many were when the table was started: its list is made of them, if there are any.
-pub const TABLE_GIVEN: usize = 11;
-
-// Whether questions have a limit, and which; whether it is left aside.
-pub const IS_LIMITED: usize = 6;
-
-pub const LIMIT: usize = 7;
-
-pub const IS_PLAIN: usize = 8;
-
-// Whether lines are shown, and the clock at the last `time`.
-pub const ECHO: usize = 9;
-
-pub const CLOCK: usize = 10;
-
-// Where the label words start, each from its first byte to the one past its last; where the names that were given.
-pub const LABELS_AT: usize = 16;
-
-pub const GIVEN_AT: usize = 2064;
+    // The table's name list, whether it is of names that were given, and the table's label words.
+    pub names: Vec<u8>,
+    pub is_listed: bool,
+    pub labels: Vec<&'a [u8]>,
+}
 
 // The desk, empty.
-pub fn empty() -> [u32; 10256]
-    ensures { 10256 ≡ length result }
+pub fn empty<'a>(alloc: Global) -> Desk<'a>
+    ensures lines { (result.line ≡ 0) × (result.wrong ≡ 0) }
+    ensures limit { result.limit ≡ None }
+    ensures given { result.given.items ≡ [] }
+    ensures names { result.names.items ≡ [] }
+    ensures labels { result.labels.items ≡ [] }
 {
-    [0u32; 10256]
-}
-
-// What stands at a place, 0 past the last.
-pub fn kept(desk: &[u32; 10256], at: usize) -> u32 {
-    if at < 10256 { desk[at] } else { 0 }
-}
-
-// Puts a number at a place.
-pub fn keep(desk: &mut [u32; 10256], at: usize, n: u32) {
-    if at < 10256 {
-        desk[at] = n;
+    Desk {
+        alloc,
+        line: 0,
+        wrong: 0,
+        limit: None,
+        is_plain: false,
+        echo: false,
+        clock: 0,
+        given: Vec::new(alloc),
+        names: Vec::new(alloc),
+        is_listed: false,
+        labels: Vec::new(alloc),
     }
 }

@@ -1,54 +1,47 @@
 // A line's first words: held and open, which may stand before a question, and the verb.
-use crate::text::{Word, bytes_of, next_word};
-use crate::verbs;
-use printing::is;
+use crate::text::Words;
+use crate::verbs::Verb;
+use crate::wrong::Why;
 
-// What a line has: nothing, a verb, or a verb behind held or open.
-pub const NOTHING: u32 = 0;
-
-pub const VERB: u32 = 1;
-
-pub const HELD_OR_OPEN: u32 = 2;
-
-// Which of these it is, the verb and its number.
+// The verb, what stands before it, and the words behind it. Behind held or open it is a question.
 #[derive(Clone, Copy)]
-pub struct Said {
-    pub form: u32,
+pub struct Said<'a> {
     pub is_held: bool,
     pub is_open: bool,
-    pub verb: Word,
-    pub number: u32,
+    pub verb: Verb,
+    pub words: Words<'a>,
 }
 
-// What a line says from a place on.
-pub fn said_from(text: &[u8], at: usize) -> Said {
-    let first = next_word(text, at);
-    let is_held = is(bytes_of(text, first), b"held");
-    let second = behind(text, first, is_held);
-    let is_open = is(bytes_of(text, second), b"open");
-    let verb = behind(text, second, is_open);
-    Said {
-        form: form_of(first.start < first.end, is_held | is_open),
-        is_held: is_held,
-        is_open: is_open,
-        verb: verb,
-        number: verbs::verb(bytes_of(text, verb)),
-    }
-}
-
-// The next word, where this one is passed over.
-fn behind(text: &[u8], word: Word, is_passed: bool) -> Word {
-    if is_passed {
-        next_word(text, word.end)
+// What a line says, if it says anything; else what is wrong.
+pub fn said_from<'a>(line: Words<'a>) -> Result<Option<Said<'a>>, Why<'a>> {
+    let mut words = line;
+    let Some(first) = words.next() else {
+        return Ok(None);
+    };
+    let is_held = first == b"held".as_slice();
+    let second = if is_held { words.next() } else { Some(first) };
+    let is_open = second == Some(b"open".as_slice());
+    let third = if is_open { words.next() } else { second };
+    let verb = if is_held | is_open {
+        question(third)?
     } else {
-        word
-    }
+        Verb::try_from(first)?
+    };
+    Ok(Some(Said {
+        is_held,
+        is_open,
+        verb,
+        words,
+    }))
 }
 
-// Which it is.
-fn form_of(is_there: bool, is_marked: bool) -> u32 {
-    if !is_there {
-        return NOTHING;
+// The question that stands behind held or open; else what is wrong.
+fn question<'a>(word: Option<&'a [u8]>) -> Result<Verb, Why<'a>> {
+    match word {
+        None => Err(Why::NoQuestion),
+        Some(b"ask") => Ok(Verb::Ask),
+        Some(b"equal") => Ok(Verb::Equal),
+        Some(b"held" | b"open") => Err(Why::NotOnce),
+        Some(word) => Err(Why::NotBefore(word)),
     }
-    if is_marked { HELD_OR_OPEN } else { VERB }
 }

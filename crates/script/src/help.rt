@@ -1,13 +1,11 @@
 // The program's help: what it is called with, and a line for each verb.
-use printing::write;
 use std::io;
 use std::io::Write;
 
 // All of it.
 pub fn print_help<W: Write>(out: &mut W) -> io::Result<()> {
     print_usage(out)?;
-    write(
-        out,
+    out.write_all(
         b"
 A script has one verb to a line; # begins a comment. It has at most 1048576 bytes. A, B, E and V are entry numbers, from 0 on.
 An answer is one line; but dump, dumps, dot and help print several, and new, mark, bound, level, setlevel, limit, plain and echo
@@ -21,8 +19,7 @@ say nothing when done. A line that is wrong is told with its number and why; it 
 
 // Every refusal that can be met, and when.
 fn print_refusals<W: Write>(out: &mut W) -> io::Result<()> {
-    write(
-        out,
+    out.write_all(
         b"
 A refusal is an answer. With steps N it is one of a step: the N steps before are kept, and the question stays asked. Without, it is one of
 the opening or of another call, and changes nothing in the table:
@@ -43,8 +40,7 @@ refused 12 BAD NAMES       a name is given twice, has more than 255 bytes, or al
 
 // What the program is called with.
 pub fn print_usage<W: Write>(out: &mut W) -> io::Result<()> {
-    write(
-        out,
+    out.write_all(
         b"usage: winch                run the script that comes by standard input
        winch FILE           run the script of a file; - is standard input
        winch dot FILE       the same, answers on standard error; then its last table as a graph for Graphviz;
@@ -68,8 +64,7 @@ pub fn print_verbs<W: Write>(out: &mut W) -> io::Result<()> {
 
 // The verbs that start a table or give names.
 fn print_tables<W: Write>(out: &mut W) -> io::Result<()> {
-    write(
-        out,
+    out.write_all(
         b"new                 an empty table of the largest capacities; a script starts with one
 start ENTRIES FIELDS BOUNDS VISITED PENDING EQUALS
                     an empty table that takes so many entries, fields, bounds, visited pairs, pending pairs, equals
@@ -80,8 +75,7 @@ names NAME..        the name list of the tables after this; names alone: a table
 
 // Those that make an entry, and put marks, bounds and levels.
 fn print_makes<W: Write>(out: &mut W) -> io::Result<()> {
-    write(
-        out,
+    out.write_all(
         b"var                 makes a variable at the current level; answers = NUMBER ENTRIES, as every make
 prim P              a primitive: 0 Null, 1 Bool, 2 Int, 3 Float, 4 String, 5 Path, 6 Uri, 7 Number
 list E              a list of E
@@ -105,8 +99,7 @@ setlevel V N        sets the level of the variable V
 
 // Questions.
 fn print_questions<W: Write>(out: &mut W) -> io::Result<()> {
-    write(
-        out,
+    out.write_all(
         b"ask A B             opens the question whether A fits under B, and works it: yes steps N, missing SUB SUP NAME steps N,
                     or mismatch SUB SUP steps N [SUB'S ENTRY] [SUP'S]; every 10000 steps are told on standard error
 equal A B           the same, whether A and B fit under each other; answers as ask
@@ -122,8 +115,7 @@ plain 1             leaves the limit aside from here on; 0: back
 
 // The verbs that read.
 fn print_reads<W: Write>(out: &mut W) -> io::Result<()> {
-    write(
-        out,
+    out.write_all(
         b"entry N             entry N as dump shows it
 record REGION N     record N of entries, fields, bounds, visited, pending or equals (or 1 to 6), word by word
 state               the table's header: idle or asked, level, break, names, and each region's count/capacity
@@ -144,8 +136,7 @@ dot                 the table as a graph for Graphviz, on standard output
 
 // Settings and the rest.
 fn print_settings<W: Write>(out: &mut W) -> io::Result<()> {
-    write(
-        out,
+    out.write_all(
         b"echo 1              shows every line before its answer; 0: no more
 time                milliseconds of the processor since the last time, on standard error
 help                this list

@@ -1,104 +1,147 @@
-// The verbs, by number.
-use printing::index_of;
+// The verbs.
+use crate::wrong::Why;
+use std::fmt;
 
-pub const VAR: u32 = 0;
+// A verb of the script.
+#[derive(Clone, Copy, Debug, PartialEq, Eq)]
+pub enum Verb {
+    Var,
+    Prim,
+    List,
+    Lambda,
+    Neg,
+    Inter,
+    Union,
+    Mark,
+    Bound,
+    SetLevel,
+    Level,
+    Enter,
+    Exit,
+    Ask,
+    Equal,
+    Abandon,
+    Entry,
+    State,
+    Count,
+    Disjoint,
+    Op,
+    Name,
+    Compare,
+    Check,
+    Dump,
+    Dumps,
+    Dot,
+    Plain,
+    Echo,
+    Time,
+    Help,
+    New,
+    Start,
 
-pub const PRIM: u32 = 1;
-
-pub const LIST: u32 = 2;
-
-pub const LAMBDA: u32 = 3;
-
-pub const NEG: u32 = 4;
-
-pub const INTER: u32 = 5;
-
-pub const UNION: u32 = 6;
-
-pub const MARK: u32 = 7;
-
-pub const BOUND: u32 = 8;
-
-pub const SETLEVEL: u32 = 9;
-
-pub const LEVEL: u32 = 10;
-
-pub const ENTER: u32 = 11;
-
-pub const EXIT: u32 = 12;
-
-pub const ASK: u32 = 13;
-
-pub const EQUAL: u32 = 14;
-
-pub const ABANDON: u32 = 15;
-
-pub const ENTRY: u32 = 16;
-
-pub const STATE: u32 = 17;
-
-pub const COUNT: u32 = 18;
-
-pub const DISJOINT: u32 = 19;
-
-pub const OP: u32 = 20;
-
-pub const NAME: u32 = 21;
-
-pub const COMPARE: u32 = 22;
-
-pub const CHECK: u32 = 23;
-
-pub const DUMP: u32 = 24;
-
-pub const DUMPS: u32 = 25;
-
-pub const DOT: u32 = 26;
-
-pub const PLAIN: u32 = 27;
-
-pub const ECHO: u32 = 28;
-
-pub const TIME: u32 = 29;
-
-pub const HELP: u32 = 30;
-
-pub const NEW: u32 = 31;
-
-pub const START: u32 = 32;
-
-// Those that take something other than a fixed number of numbers.
-pub const ATTR: u32 = 33;
-
-pub const NAMED: u32 = 34;
-
-pub const NAMES: u32 = 35;
-
-pub const FIND: u32 = 36;
-
-pub const RECORD: u32 = 37;
-
-pub const WORK: u32 = 38;
-
-pub const LIMIT: u32 = 39;
-
-pub const NONE: u32 = 40;
-
-// The number of a verb; NONE where it is none.
-pub fn verb(word: &[u8]) -> u32 {
-    index_of(
-        b"var|prim|list|lambda|neg|inter|union|mark|bound|setlevel|level|enter|exit|ask|equal|abandon|entry|state|count|disjoint|op|name|compare|check|dump|dumps|dot|plain|echo|time|help|new|start|attr|named|names|find|record|work|limit",
-        word,
-    )
+    // Those that take something other than a fixed number of numbers.
+    Attr,
+    Named,
+    Names,
+    Find,
+    Record,
+    Work,
+    Limit,
 }
 
-// How many numbers a verb takes that takes a fixed number of them.
-pub fn takes(verb: u32) -> u32 {
-    match verb {
-        PRIM | LIST | NEG | MARK | LEVEL | ENTRY | NAME | PLAIN | ECHO => 1,
-        LAMBDA | INTER | UNION | SETLEVEL | ASK | EQUAL | DISJOINT | COMPARE => 2,
-        BOUND | OP => 3,
-        START => 6,
-        _ => 0,
+impl<'a> TryFrom<&'a [u8]> for Verb {
+    type Error = Why<'a>;
+
+    fn try_from(word: &'a [u8]) -> Result<Verb, Why<'a>> {
+        match word {
+            b"var" => Ok(Verb::Var),
+            b"prim" => Ok(Verb::Prim),
+            b"list" => Ok(Verb::List),
+            b"lambda" => Ok(Verb::Lambda),
+            b"neg" => Ok(Verb::Neg),
+            b"inter" => Ok(Verb::Inter),
+            b"union" => Ok(Verb::Union),
+            b"mark" => Ok(Verb::Mark),
+            b"bound" => Ok(Verb::Bound),
+            b"setlevel" => Ok(Verb::SetLevel),
+            b"level" => Ok(Verb::Level),
+            b"enter" => Ok(Verb::Enter),
+            b"exit" => Ok(Verb::Exit),
+            b"ask" => Ok(Verb::Ask),
+            b"equal" => Ok(Verb::Equal),
+            b"abandon" => Ok(Verb::Abandon),
+            b"entry" => Ok(Verb::Entry),
+            b"state" => Ok(Verb::State),
+            b"count" => Ok(Verb::Count),
+            b"disjoint" => Ok(Verb::Disjoint),
+            b"op" => Ok(Verb::Op),
+            b"name" => Ok(Verb::Name),
+            b"compare" => Ok(Verb::Compare),
+            b"check" => Ok(Verb::Check),
+            b"dump" => Ok(Verb::Dump),
+            b"dumps" => Ok(Verb::Dumps),
+            b"dot" => Ok(Verb::Dot),
+            b"plain" => Ok(Verb::Plain),
+            b"echo" => Ok(Verb::Echo),
+            b"time" => Ok(Verb::Time),
+            b"help" => Ok(Verb::Help),
+            b"new" => Ok(Verb::New),
+            b"start" => Ok(Verb::Start),
+            b"attr" => Ok(Verb::Attr),
+            b"named" => Ok(Verb::Named),
+            b"names" => Ok(Verb::Names),
+            b"find" => Ok(Verb::Find),
+            b"record" => Ok(Verb::Record),
+            b"work" => Ok(Verb::Work),
+            b"limit" => Ok(Verb::Limit),
+            _ => Err(Why::NoVerb(word)),
+        }
+    }
+}
+
+impl fmt::Display for Verb {
+    fn fmt<W: fmt::Write>(&self, f: &mut fmt::Formatter<W>) -> fmt::Result {
+        f.write_str(match self {
+            Verb::Var => "var",
+            Verb::Prim => "prim",
+            Verb::List => "list",
+            Verb::Lambda => "lambda",
+            Verb::Neg => "neg",
+            Verb::Inter => "inter",
+            Verb::Union => "union",
+            Verb::Mark => "mark",
+            Verb::Bound => "bound",
+            Verb::SetLevel => "setlevel",
+            Verb::Level => "level",
+            Verb::Enter => "enter",
+            Verb::Exit => "exit",
+            Verb::Ask => "ask",
+            Verb::Equal => "equal",
+            Verb::Abandon => "abandon",
+            Verb::Entry => "entry",
+            Verb::State => "state",
+            Verb::Count => "count",
+            Verb::Disjoint => "disjoint",
+            Verb::Op => "op",
+            Verb::Name => "name",
+            Verb::Compare => "compare",
+            Verb::Check => "check",
+            Verb::Dump => "dump",
+            Verb::Dumps => "dumps",
+            Verb::Dot => "dot",
+            Verb::Plain => "plain",
+            Verb::Echo => "echo",
+            Verb::Time => "time",
+            Verb::Help => "help",
+            Verb::New => "new",
+            Verb::Start => "start",
+            Verb::Attr => "attr",
+            Verb::Named => "named",
+            Verb::Names => "names",
+            Verb::Find => "find",
+            Verb::Record => "record",
+            Verb::Work => "work",
+            Verb::Limit => "limit",
+        })
     }
 }

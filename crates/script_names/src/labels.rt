@@ -1,116 +1,64 @@
 // Labels of named entries. In the table a label is a number: a word that is one is that number, and other words are numbered in the
-// order of their first use in a table, from FIRST on. They stand in the script, so that the desk keeps where.
-ghost use Rattle.std.specs.Prelude.{◌≤◌};
-
-use printing::{is, write, write_number};
-use script::desk::{LABELS, LABELS_AT, keep, kept};
-use script::text::{Number, Word, bytes_of, narrow, number_in, part};
+// order of their first use in a table, from FIRST on. The desk keeps these.
+use script::text::number_in;
+use script::wrong::Why;
+use std::alloc::AllocError;
 use std::io;
 use std::io::Write;
-use table_words::wide;
 
 // A table takes at most so many label words.
-pub const MOST: u32 = 1024;
+pub const MOST: usize = 1024;
 
 // The number of the first label word.
 const FIRST: u32 = 4294901760;
 
-// What a label comes to.
-#[derive(Drop)]
-pub enum Label {
-    Number(u32),
-    Full,
-}
-
 // The number of a label; a new word gets the next, and is not kept.
-pub fn label_number(text: &[u8], desk: &[u32; 10256], word: Word) -> Label {
-    let bytes = bytes_of(text, word);
-    if is_padded(bytes) {
-        return label_word(text, desk, word);
-    }
-    match number_in(bytes) {
-        Number::Value(n) => {
-            if n < FIRST {
-                Label::Number(n)
-            } else {
-                label_word(text, desk, word)
-            }
-        }
-        _ => label_word(text, desk, word),
+pub fn label_number<'a>(labels: &[&[u8]], word: &'a [u8]) -> Result<u32, Why<'a>> {
+    match number_in(word) {
+        Ok(n) if (n < FIRST) & !is_padded(word) => Ok(n),
+        _ => label_word(labels, word),
     }
 }
 
 // Whether a number has a zero before it.
-fn is_padded(bytes: &[u8]) -> bool {
-    if bytes.len() < 2 {
-        return false;
-    }
-    bytes[0] == b'0'
+fn is_padded(word: &[u8]) -> bool {
+    matches!(word, [b'0', _, ..])
 }
 
 // The number of a label word.
-fn label_word(text: &[u8], desk: &[u32; 10256], word: Word) -> Label {
-    let at = find(text, desk, bytes_of(text, word));
-    if MOST <= at {
-        return Label::Full;
+fn label_word<'a>(labels: &[&[u8]], word: &'a [u8]) -> Result<u32, Why<'a>> {
+    let at = labels
+        .iter()
+        .position(|label| *label == word)
+        .unwrap_or(labels.len());
+    if at < MOST {
+        Ok(FIRST + at as u32)
+    } else {
+        Err(Why::ManyLabels)
     }
-    Label::Number(FIRST.wrapping_add(at))
 }
 
 // Keeps the word of a label's number, if it is new.
-pub fn keep_new(desk: &mut [u32; 10256], number: u32, word: Word) {
-    if number < FIRST {
-        return;
+pub fn keep_new<'a>(
+    labels: &mut Vec<&'a [u8]>,
+    number: u32,
+    word: &'a [u8],
+) -> Result<(), AllocError> {
+    if place_of(number) == Some(labels.len()) {
+        labels.push(word)?;
     }
-    let at = number - FIRST;
-    if desk[LABELS] == at {
-        keep_label(desk, at, word);
-    }
+    Ok(())
 }
 
-// Keeps a new label word.
-fn keep_label(desk: &mut [u32; 10256], at: u32, word: Word) {
-    desk[LABELS] = at.wrapping_add(1);
-    let place = place_of(at);
-    keep(desk, place, narrow(word.start));
-    keep(desk, place + 1, narrow(word.end));
-}
-
-// Where a label word's start is kept.
-fn place_of(at: u32) -> usize
-    ensures { result ≤ 8589934606 }
-{
-    LABELS_AT + 2 * wide(at)
-}
-
-// The place of a label word among those of the table; their count where it is new.
-fn find(text: &[u8], desk: &[u32; 10256], bytes: &[u8]) -> u32 {
-    let count = kept(desk, LABELS);
-    for at in 0..count {
-        if is(kept_label(text, desk, at), bytes) {
-            return at;
-        }
-    }
-    count
-}
-
-// A label word that was kept.
-fn kept_label<'a>(text: &'a [u8], desk: &[u32; 10256], at: u32) -> &'a [u8] {
-    let place = place_of(at);
-    let start = wide(kept(desk, place));
-    let end = wide(kept(desk, place + 1));
-    part(text, start, end)
+// Where a label word is kept; a label that is a number itself is kept nowhere.
+fn place_of(number: u32) -> Option<usize> {
+    Some(number.checked_sub(FIRST)? as usize)
 }
 
 // A label as the script has it.
-pub fn print_label<W: Write>(
-    out: &mut W,
-    text: &[u8],
-    desk: &[u32; 10256],
-    n: u32,
-) -> io::Result<()> {
-    if n < FIRST {
-        return write_number(out, n);
+pub fn print_label<W: Write>(out: &mut W, labels: &[&[u8]], n: u32) -> io::Result<()> {
+    match place_of(n) {
+        Some(at) => out.write_all(labels.get(at).copied().unwrap_or(b"")),
+        None => write!(out, "{n}"),
     }
-    write(out, kept_label(text, desk, n - FIRST))
 }

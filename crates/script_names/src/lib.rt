@@ -6,4 +6,3 @@ pub mod answers;
 pub mod fields;
 pub mod labels;
 pub mod name_lists;
-mod places;
