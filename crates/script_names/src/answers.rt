@@ -1,10 +1,10 @@
 // What the calls answer, told on one line: refusals by their number and name in 01; and why a line is not obeyed to its end.
-use model::{Carried, Refusal};
+use model::{Failure, Refusal};
 use script::wrong::Why;
 use std::alloc::{AllocError, AllocFailed};
 use std::io;
 use std::io::Write;
-use told_in_words::{write_refusal, write_region};
+use told_in_words::{Named, NoRegion, Region};
 
 // Why a line is not obeyed to its end: it is wrong, it is refused, or nothing more can be written or kept.
 #[derive(Drop)]
@@ -52,55 +52,42 @@ pub fn tell_refusal<W: Write>(out: &mut W, names: &[u8], r: Refusal) -> io::Resu
 
 // A refusal, by its number and its name in 01, and what it carries.
 pub fn print_refusal<W: Write>(out: &mut W, names: &[u8], r: Refusal) -> io::Result<()> {
-    write!(out, "refused ")?;
-    write_refusal(out, r)?;
-    match refusals::carried(r) {
-        Carried::Nothing => Ok(()),
-        Carried::Region(region) => {
-            write!(out, " ")?;
-            write_region(out, region)
-        }
-        Carried::Break {
+    let named = Named(r);
+    write!(out, "refused {named}")?;
+    match r {
+        Refusal::NoRoom(region) => match Region::try_from(region) {
+            Ok(region) => write!(out, " {region}"),
+            Err(NoRegion) => write!(out, " "),
+        },
+        Refusal::Broken {
             kind,
             sub,
             sup,
             name,
         } => {
             write!(out, " ")?;
-            print_break(out, names, kind, sub, sup, name)
+            print_break(out, names, kept_failure(kind, sub, sup, name))
+        }
+        _ => Ok(()),
+    }
+}
+
+// The failure that break words keep.
+fn kept_failure(kind: u32, sub: u32, sup: u32, name: u32) -> Failure {
+    if kind == image::format::FIELD_MISSING {
+        Failure::MissingField { sub, sup, name }
+    } else {
+        Failure::Mismatch { sub, sup }
+    }
+}
+
+// Why a question failed: a pair that does not fit, or that lacks a field. A field's name may have any bytes, so this is no Display.
+pub fn print_break<W: Write>(out: &mut W, names: &[u8], failure: Failure) -> io::Result<()> {
+    match failure {
+        Failure::Mismatch { sub, sup } => write!(out, "mismatch {sub} {sup}"),
+        Failure::MissingField { sub, sup, name } => {
+            write!(out, "missing {sub} {sup} ")?;
+            out.write_all(names::show(names, name))
         }
     }
-}
-
-// Why a question failed: the kind as in 01's break words, the pair, and the name of a field that is missing.
-pub fn print_break<W: Write>(
-    out: &mut W,
-    names: &[u8],
-    kind: u32,
-    sub: u32,
-    sup: u32,
-    name: u32,
-) -> io::Result<()> {
-    if kind == image::format::FIELD_MISSING {
-        print_missing(out, names, sub, sup, name)
-    } else {
-        print_mismatch(out, sub, sup)
-    }
-}
-
-// A pair that does not fit.
-pub fn print_mismatch<W: Write>(out: &mut W, sub: u32, sup: u32) -> io::Result<()> {
-    write!(out, "mismatch {sub} {sup}")
-}
-
-// A field that is missing, and the pair that lacks it. A name may have any bytes, and so is no text that `write!` takes.
-pub fn print_missing<W: Write>(
-    out: &mut W,
-    names: &[u8],
-    sub: u32,
-    sup: u32,
-    name: u32,
-) -> io::Result<()> {
-    write!(out, "missing {sub} {sup} ")?;
-    out.write_all(names::show(names, name))
 }
