@@ -1,4 +1,4 @@
-pub mod Laws
+pub mod Listed
 pub mod OneToOne
 pub mod Settled
 pub mod Oracle

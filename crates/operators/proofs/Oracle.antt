@@ -1,9 +1,8 @@
 -- What the Rust of tix answers for every operator and primitive. Written by tools/oracle/worked, from the
 -- answers that tools/oracle/check holds to the Rust. Assumes nothing.
 use mathlib.Core.List.{List, [], ◌∷◌}
-use Rattle.operators.specs.Operators.{int, float, string, path, number}
-use Rattle.operators.specs.declared.Resolved.{Resolved}
-use Rattle.operators.specs.declared.Resolved.TheVariants as R
+use Rattle.std.specs.Prelude.{None, Some, Ok}
+use Rattle.operators.specs.Operators.{Resolved, int, float, string, path, number}
 
 -- a left primitive: what is known from it alone, and the result with each right primitive
 pub record Row : Type 0 where
@@ -16,22 +15,22 @@ pub record Operator : Type 0 where
   pub rows : List Row
 
 abbrev – : Resolved
-– = R.None
+– = Ok None
 
 abbrev I : Resolved
-I = R.Primitive int
+I = Ok (Some int)
 
 abbrev F : Resolved
-F = R.Primitive float
+F = Ok (Some float)
 
 abbrev S : Resolved
-S = R.Primitive string
+S = Ok (Some string)
 
 abbrev P : Resolved
-P = R.Primitive path
+P = Ok (Some path)
 
 abbrev N : Resolved
-N = R.Primitive number
+N = Ok (Some number)
 
 abbrev row : Resolved → List Resolved → Row
 row known results = record { known = known; results = results }

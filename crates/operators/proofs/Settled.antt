@@ -1,8 +1,7 @@
 -- Any two results that a call's contract allows are equal: one theorem for each public function. Assumes nothing.
 use Prim.Native.Nat.{ℕ}
 use mathlib.Core.Path.{◌≡◌, sym, ◌∙◌}
-use Rattle.operators.specs.Operators.{resolved, from_left, at_once}
-use Rattle.operators.specs.declared.Resolved.{Resolved}
+use Rattle.operators.specs.Operators.{Resolved, resolved, from_left, at_once}
 
 pub resolve_settled : (op left right : ℕ) (a b : Resolved) → a ≡ resolved op left right → b ≡ resolved op left right → a ≡ b
 resolve_settled op left right a b p q = p ∙ sym q

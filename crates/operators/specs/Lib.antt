@@ -1,2 +1,2 @@
 pub mod Operators
-pub mod NumericOnly
+pub mod Numbers

@@ -1,9 +1,12 @@
 -- The operators on primitives, as document 01's table has them, and the three calls. Assumes nothing.
-use Rattle.std.specs.Prelude.{ℕ, [], ◌∷◌, Bool, cond, ◌&&◌, ◌||◌, eqb, leb}
+use Rattle.std.specs.Prelude.{ℕ, [], ◌∷◌, Bool, cond, ◌&&◌, ◌||◌, eqb, leb, Option, None, Some, Result, Ok, Err}
 use Rattle.model.specs.Told.{Told, done, told_refusal}
+use Rattle.model.specs.declared.Refusal.{Refusal}
 use Rattle.model.specs.declared.Refusal.TheVariants as F
-use Rattle.operators.specs.declared.Resolved.{Resolved}
-use Rattle.operators.specs.declared.Resolved.TheVariants as R
+
+-- what a call answers: a primitive's number, none, or a refusal
+abbrev pub Resolved : Type 0
+Resolved = Result (Option ℕ) Refusal
 
 -- "Null, Bool, Int, Float, String, Path, Uri, Number (0 to 7)"
 abbrev pub null : ℕ
@@ -62,38 +65,38 @@ unfoldable pub is_text : ℕ → Bool
 is_text p = eqb p string || eqb p path
 
 -- two numeric ones: their result; "Add of two of String, Path: the left; else none"
-unfoldable pub result_of : ℕ → ℕ → ℕ → Resolved
+unfoldable pub result_of : ℕ → ℕ → ℕ → Option ℕ
 result_of op l r =
-    cond (is_numeric l && is_numeric r) (R.Primitive (numeric_result l r))
-    (cond (eqb op add && is_text l && is_text r) (R.Primitive l) R.None)
+    cond (is_numeric l && is_numeric r) (Some (numeric_result l r))
+    (cond (eqb op add && is_text l && is_text r) (Some l) None)
 
 -- "Known from the left alone: Add on String or Path, that one"
-unfoldable pub known_from_left : ℕ → ℕ → Resolved
-known_from_left op l = cond (eqb op add && is_text l) (R.Primitive l) R.None
+unfoldable pub known_from_left : ℕ → ℕ → Option ℕ
+known_from_left op l = cond (eqb op add && is_text l) (Some l) None
 
 -- "Bound at once: Number for Sub, Mul, Div (1 to 3), none for Add (0)"
-unfoldable pub bound_at_once : ℕ → Resolved
-bound_at_once op = cond (eqb op add) R.None (R.Primitive number)
+unfoldable pub bound_at_once : ℕ → Option ℕ
+bound_at_once op = cond (eqb op add) None (Some number)
 
 -- refusal 2: "a primitive .. or operator number outside its list"
 abbrev pub bad_number : Resolved
-bad_number = R.Refused F.BadNumber
+bad_number = Err F.BadNumber
 
 -- the calls
 unfoldable pub resolved : ℕ → ℕ → ℕ → Resolved
-resolved op l r = cond (is_operator op && is_primitive l && is_primitive r) (result_of op l r) bad_number
+resolved op l r = cond (is_operator op && is_primitive l && is_primitive r) (Ok (result_of op l r)) bad_number
 
 unfoldable pub from_left : ℕ → ℕ → Resolved
-from_left op l = cond (is_operator op && is_primitive l) (known_from_left op l) bad_number
+from_left op l = cond (is_operator op && is_primitive l) (Ok (known_from_left op l)) bad_number
 
 unfoldable pub at_once : ℕ → Resolved
-at_once op = cond (is_operator op) (bound_at_once op) bad_number
+at_once op = cond (is_operator op) (Ok (bound_at_once op)) bad_number
 
 -- what an answer tells: a primitive's number, nothing, or the refusal
 abbrev pub told_resolved : Resolved → Told
-told_resolved (R.Primitive p) = done (p ∷ [])
-told_resolved R.None = done []
-told_resolved (R.Refused r) = told_refusal r
+told_resolved (Ok (Some p)) = done (p ∷ [])
+told_resolved (Ok None) = done []
+told_resolved (Err r) = told_refusal r
 
 -- to compute: unfolds all of this file
 unfoldable pub operating : Unit {0}

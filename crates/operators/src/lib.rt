@@ -4,128 +4,116 @@
 #![tactic(auto)]
 
 ghost use Rattle.std.specs.Prelude.{◌≡◌};
-ghost use Rattle.operators.specs.Operators.{add, result_of, resolved, from_left, at_once};
-ghost use Rattle.operators.specs.NumericOnly.{NumericOnly};
+ghost use Rattle.operators.specs.Operators.{result_of, resolved, from_left, at_once};
+ghost use Rattle.operators.specs.Numbers.{OperatorRead, PrimitiveRead, operator_number, primitive_number, numbered};
 
 use model::Refusal;
 
 // The operators, 0 to 3.
-pub const ADD: u32 = 0;
+#[derive(Clone, Copy, Debug, PartialEq, Eq)]
+pub enum Operator {
+    Add,
+    Sub,
+    Mul,
+    Div,
+}
 
-pub const SUB: u32 = 1;
+impl TryFrom<u32> for Operator {
+    type Error = Refusal;
 
-pub const MUL: u32 = 2;
+    ghost try_from_gives = { OperatorRead };
 
-pub const DIV: u32 = 3;
+    fn try_from(number: u32) -> Result<Self, Refusal> {
+        match number {
+            0 => Ok(Operator::Add),
+            1 => Ok(Operator::Sub),
+            2 => Ok(Operator::Mul),
+            3 => Ok(Operator::Div),
+            _ => Err(Refusal::BadNumber),
+        }
+    }
+}
 
 // The primitives, 0 to 7.
-pub const NULL: u32 = 0;
+#[derive(Clone, Copy, Debug, PartialEq, Eq)]
+pub enum Primitive {
+    Null,
+    Bool,
+    Int,
+    Float,
+    String,
+    Path,
+    Uri,
+    Number,
+}
 
-pub const BOOL: u32 = 1;
+impl TryFrom<u32> for Primitive {
+    type Error = Refusal;
 
-pub const INT: u32 = 2;
+    ghost try_from_gives = { PrimitiveRead };
 
-pub const FLOAT: u32 = 3;
-
-pub const STRING: u32 = 4;
-
-pub const PATH: u32 = 5;
-
-pub const URI: u32 = 6;
-
-pub const NUMBER: u32 = 7;
-
-// What an operator call answers.
-#[derive(Drop)]
-pub enum Resolved {
-    // a primitive, 0 to 7
-    Primitive(u32),
-    None,
-    Refused(Refusal),
+    fn try_from(number: u32) -> Result<Self, Refusal> {
+        match number {
+            0 => Ok(Primitive::Null),
+            1 => Ok(Primitive::Bool),
+            2 => Ok(Primitive::Int),
+            3 => Ok(Primitive::Float),
+            4 => Ok(Primitive::String),
+            5 => Ok(Primitive::Path),
+            6 => Ok(Primitive::Uri),
+            7 => Ok(Primitive::Number),
+            _ => Err(Refusal::BadNumber),
+        }
+    }
 }
 
 // The result of an operator on two primitives.
-pub fn resolve(op: u32, left: u32, right: u32) -> Resolved
+#[tactic(auto, using(crate::proofs::Listed::operator_listed, crate::proofs::Listed::primitive_listed), unfolding(crate::specs::Operators::resolved))]
+pub fn resolve(op: u32, left: u32, right: u32) -> Result<Option<u32>, Refusal>
     ensures { result ≡ resolved op left right }
 {
-    if DIV < op {
-        return Resolved::Refused(Refusal::BadNumber);
-    }
-    if NUMBER < left {
-        return Resolved::Refused(Refusal::BadNumber);
-    }
-    if NUMBER < right {
-        return Resolved::Refused(Refusal::BadNumber);
-    }
-    match op {
-        ADD => resolve_add(left, right),
-        _ => resolve_numeric_only(left, right),
-    }
+    let op = Operator::try_from(op)?;
+    let left = Primitive::try_from(left)?;
+    let right = Primitive::try_from(right)?;
+    Ok(result_of(op, left, right).map(|p| p as u32))
 }
 
-// Add takes numbers, and joins texts: the left one's primitive.
-fn resolve_add(left: u32, right: u32) -> Resolved
-    ensures { result ≡ result_of add left right }
+// Numbers have a result under each operator: a Float wins, then a Number. Add joins texts: the left one's primitive.
+#[tactic(auto, unfolding(crate::specs::Operators::operating))]
+fn result_of(op: Operator, left: Primitive, right: Primitive) -> Option<Primitive>
+    ensures { numbered result ≡ result_of (operator_number op) (primitive_number left) (primitive_number right) }
 {
-    match left {
-        STRING | PATH => match right {
-            STRING | PATH => Resolved::Primitive(left),
-            _ => Resolved::None,
-        },
-        _ => resolve_numeric_only(left, right),
-    }
-}
+    use Primitive::{Float, Int, Number, Path, String};
 
-// Sub, Mul and Div take numbers alone: a Float wins, then a Number.
-fn resolve_numeric_only(left: u32, right: u32) -> Resolved
-    ensures { NumericOnly result left right }
-{
-    match left {
-        INT => match right {
-            INT | FLOAT | NUMBER => Resolved::Primitive(right),
-            _ => Resolved::None,
-        },
-        FLOAT => match right {
-            INT | FLOAT | NUMBER => Resolved::Primitive(FLOAT),
-            _ => Resolved::None,
-        },
-        NUMBER => match right {
-            INT => Resolved::Primitive(NUMBER),
-            FLOAT => Resolved::Primitive(FLOAT),
-            NUMBER => Resolved::Primitive(NUMBER),
-            _ => Resolved::None,
-        },
-        _ => Resolved::None,
+    match (op, left, right) {
+        (_, Int, Int) => Some(Int),
+        (_, Int | Number, Int | Number) => Some(Number),
+        (_, Int | Float | Number, Int | Float | Number) => Some(Float),
+        (Operator::Add, String | Path, String | Path) => Some(left),
+        _ => None,
     }
 }
 
 // The result that is known from the left primitive alone.
-pub fn from_left(op: u32, left: u32) -> Resolved
+#[tactic(auto, unfolding(crate::specs::Operators::operating))]
+pub fn from_left(op: u32, left: u32) -> Result<Option<u32>, Refusal>
     ensures { result ≡ from_left op left }
 {
-    if DIV < op {
-        return Resolved::Refused(Refusal::BadNumber);
-    }
-    if NUMBER < left {
-        return Resolved::Refused(Refusal::BadNumber);
-    }
-    match op {
-        ADD => match left {
-            STRING | PATH => Resolved::Primitive(left),
-            _ => Resolved::None,
-        },
-        _ => Resolved::None,
+    let op = Operator::try_from(op)?;
+    let left = Primitive::try_from(left)?;
+    match (op, left) {
+        (Operator::Add, Primitive::String | Primitive::Path) => Ok(Some(left as u32)),
+        _ => Ok(None),
     }
 }
 
 // The primitive that bounds an operator's operands and result at once.
-#[tactic(auto, using(crate::proofs::Laws::number_at_once))]
-pub fn at_once(op: u32) -> Resolved
+#[tactic(auto, unfolding(crate::specs::Operators::operating))]
+pub fn at_once(op: u32) -> Result<Option<u32>, Refusal>
     ensures { result ≡ at_once op }
 {
-    match op {
-        ADD => Resolved::None,
-        SUB..=DIV => Resolved::Primitive(NUMBER),
-        _ => Resolved::Refused(Refusal::BadNumber),
+    match Operator::try_from(op)? {
+        Operator::Add => Ok(None),
+        Operator::Sub | Operator::Mul | Operator::Div => Ok(Some(Primitive::Number as u32)),
     }
 }
