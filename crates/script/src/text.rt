@@ -2,6 +2,8 @@
 ghost use Rattle.std.specs.Prelude.{◌≤◌, length};
 ghost use Rattle.std.specs.Iterator.{at_most};
 
+use std::str;
+
 // A line without its end, and the script behind it.
 #[derive(Clone, Copy)]
 pub struct Line<'a> {
@@ -24,7 +26,11 @@ impl<'a> Iterator for Lines<'a> {
         if self.rest.is_empty() {
             return None;
         }
-        let end = place_of(self.rest, |byte| byte == b'\n');
+        let end = self
+            .rest
+            .iter()
+            .position(|byte| *byte == b'\n')
+            .unwrap_or(self.rest.len());
         let (text, rest) = self.rest.split_at(end);
         self.rest = rest.get(1..).unwrap_or(b"");
         Some(Line {
@@ -46,7 +52,7 @@ impl<'a> From<&'a [u8]> for Words<'a> {
 
     fn from(line: &'a [u8]) -> Words<'a> {
         Words {
-            rest: &line[..place_of(line, |byte| byte == b'#')],
+            rest: line.split(|byte| *byte == b'#').next().unwrap_or(b""),
         }
     }
 }
@@ -57,28 +63,15 @@ impl<'a> Iterator for Words<'a> {
     ghost remaining = { λ s. at_most (length s.rest.now) };
 
     fn next(&mut self) -> Option<&'a [u8]> {
-        let start = place_of(self.rest, |byte| !is_blank(byte));
-        let (_, behind) = self.rest[start..].split_first()?;
-        let (end, rest) = behind.split_at(place_of(behind, is_blank));
-        let word = &self.rest[start..][..1 + end.len()];
-        self.rest = rest;
-        Some(word)
+        let text = self.rest.trim_ascii_start();
+        let (_, behind) = text.split_first()?;
+        let end = behind
+            .iter()
+            .position(|byte| byte.is_ascii_whitespace())
+            .unwrap_or(behind.len());
+        self.rest = &behind[end..];
+        Some(&text[..1 + end])
     }
-}
-
-// Where a byte stands first that is looked for; past the last where none is.
-fn place_of<F: Fn(u8) -> bool>(text: &[u8], is_sought: F) -> usize
-    requires { F.IsAlwaysCallable is_sought }
-    ensures { result ≤ length text.now }
-{
-    text.iter()
-        .position(|byte| is_sought(*byte))
-        .unwrap_or(text.len())
-}
-
-// Whether a byte stands between words.
-fn is_blank(byte: u8) -> bool {
-    matches!(byte, b' ' | b'\t' | b'\r' | b'\n' | 12)
 }
 
 // Why a word is no number that a script may have: it is over 4294967295, or no number in decimal at all.
@@ -90,17 +83,11 @@ pub enum NotANumber {
 
 // A word as a number in decimal.
 pub fn number_in(word: &[u8]) -> Result<u32, NotANumber> {
-    if word.is_empty() {
+    if word.is_empty() || !word.iter().all(|byte| byte.is_ascii_digit()) {
         return Err(NotANumber::NoNumber);
     }
-    if !word.iter().all(|byte| byte.is_ascii_digit()) {
-        return Err(NotANumber::NoNumber);
-    }
-    word.iter()
-        .try_fold(0u32, |n, byte| {
-            n.checked_mul(10)?.checked_add(u32::from(*byte & 15))
-        })
-        .ok_or(NotANumber::Large)
+    let digits = str::from_utf8(word).map_err(|_| NotANumber::NoNumber)?;
+    digits.parse().map_err(|_| NotANumber::Large)
 }
 
 // Whether a word is a minus and a number.
