@@ -1,183 +1,182 @@
 // The bench table's image with one word changed: a call refuses it with 1 and leaves every word, or takes it.
 // All words past a count and all words of the layout are tried, and others at random.
-ghost use Rattle.std.specs.Prelude.{◌<◌, ◌≤◌, IfOk};
+ghost use Rattle.std.specs.Prelude.{◌<◌, ◌≤◌};
 
-use crate::copies::{copied, same};
-use crate::random_words::next;
-use crate::{print_size, random_words};
+use crate::random_words::{Random, count_refused};
 use bench_table::{make_table, room};
+use image::format::{LOWER, UPPER};
 use model::{EntryRead, Refusal, Reply};
-use printing::{print, print_one};
 use std::io;
 use std::io::Write;
 
-// What is told of a call: taken, refused as no image, or another refusal.
-const TAKEN: u32 = 0;
-
-const BAD_TABLE: u32 = 1;
-
-const ANOTHER: u32 = 2;
-
-// Added to a word, it takes one away.
-const ONE_LESS: u32 = 4294967295;
+// What is added to a word; the latter takes one away.
+const ADDED: [(u32, &str); 2] = [(1, "one more"), (u32::MAX, "one less")];
 
 // How many changes at random a region gets.
 const CHANGES: u32 = 3000;
+
+// Words of the image, from a first to before an end.
+#[derive(Clone, Copy)]
+struct Span {
+    from: usize,
+    end: usize,
+    ghost some: { from < end },
+    ghost inside: { end ≤ 283 },
+}
 
 // What is refused.
 pub fn print_refused<W: Write>(out: &mut W) -> io::Result<()> {
     let mut words = room();
     make_table(&mut words);
     put_bounds(&mut words);
-    print_cut(out, &words)?;
-    print_past(out, &mut words, 1)?;
-    print_past(out, &mut words, ONE_LESS)?;
-    print_layout(out, &mut words, 1)?;
-    print_layout(out, &mut words, ONE_LESS)?;
-    print_random(out, &mut words)
+    writeln!(
+        out,
+        "The image cut to 0 to 282 words, refused: {}",
+        count_refused(&words, 282)
+    )?;
+    let mut trials = Trials { out, words };
+    trials.print_past()?;
+    trials.print_layout()?;
+    trials.print_random()
 }
 
 // The bounds of B6, so that this region has records too.
 fn put_bounds(words: &mut [u32]) {
-    sheafwinch::put_bound(words, 4, 0, 0);
-    sheafwinch::put_bound(words, 4, 1, 5);
-    sheafwinch::put_bound(words, 5, 0, 0);
-    sheafwinch::put_bound(words, 5, 1, 1);
-}
-
-// The image cut short, at every length.
-fn print_cut<W: Write>(out: &mut W, words: &[u32]) -> io::Result<()> {
-    print_one(
-        out,
-        b"The image cut to 0 to 282 words, refused: %\n",
-        random_words::count_refused(words, 282),
-    )
-}
-
-// The words past a count, all of them: 15 of 24 entries, 5 of 8 fields and 4 of 8 bounds are there, and nothing after them.
-fn print_past<W: Write>(out: &mut W, words: &mut [u32], more: u32) -> io::Result<()> {
-    print_more(out, b"Words past a count, ", more)?;
-    print_each(out, words, 132, 195, more)?;
-    print_each(out, words, 210, 219, more)?;
-    print_each(out, words, 231, 283, more)?;
-    print(out, b"\n")
-}
-
-// Offsets, capacities and counts. Zeros are a field record that no attrset owns, and a visited and an equal pair, so that with one
-// more in words 14, 20 or 26, the counts of these, the words are an image still. No other is.
-fn print_layout<W: Write>(out: &mut W, words: &mut [u32], more: u32) -> io::Result<()> {
-    print_more(out, b"Header words 9 to 26, ", more)?;
-    print_each(out, words, 9, 27, more)?;
-    print(out, b"\n")
-}
-
-// What is changed, and how.
-fn print_more<W: Write>(out: &mut W, s: &[u8], more: u32) -> io::Result<()> {
-    print(out, s)?;
-    if more == ONE_LESS {
-        print(out, b"one less, refused:")
-    } else {
-        print(out, b"one more, refused:")
+    for (variable, side, bound) in [(4, LOWER, 0), (4, UPPER, 5), (5, LOWER, 0), (5, UPPER, 1)] {
+        let _ = sheafwinch::put_bound(words, variable, side, bound);
     }
 }
 
-// Each region, the header first.
-fn print_random<W: Write>(out: &mut W, words: &mut [u32]) -> io::Result<()> {
-    print(
-        out,
-        b"Of 3000 changes at random in the header and in each region, refused:",
-    )?;
-    print_changes(out, words, 0, 27)?;
-    print_changes(out, words, 27, 195)?;
-    print_changes(out, words, 195, 219)?;
-    print_changes(out, words, 219, 243)?;
-    print_changes(out, words, 243, 259)?;
-    print_changes(out, words, 259, 275)?;
-    print_changes(out, words, 275, 283)?;
-    print(out, b"\n")
+// The image, and the writer that is told of its changes.
+#[derive(Drop)]
+struct Trials<'a, W> {
+    out: &'a mut W,
+    words: [u32; 283],
 }
 
-// How many of the words are refused with so much added to one, and which are not.
-fn print_each<W: Write>(
-    out: &mut W,
-    words: &mut [u32],
-    from: usize,
-    end: usize,
-    more: u32,
-) -> io::Result<()>
-    requires from_le_end { from ≤ end }
-    requires end_bound { end ≤ 283 }
-{
-    let mut refused: u32 = 0;
-    for at in from..end {
-        refused += tried(out, words, at, more)?;
+impl<W: Write> Trials<'_, W> {
+    // The words past a count, all of them: 15 of 24 entries, 5 of 8 fields and 4 of 8 bounds are there, and nothing after them.
+    fn print_past(&mut self) -> io::Result<()> {
+        self.print_added(
+            "Words past a count",
+            &[
+                Span {
+                    from: 132,
+                    end: 195,
+                },
+                Span {
+                    from: 210,
+                    end: 219,
+                },
+                Span {
+                    from: 231,
+                    end: 283,
+                },
+            ],
+        )
     }
-    print_one(out, b" % of ", refused)?;
-    print_size(out, end - from)
-}
 
-// 1 where the image is refused with so much added to a word; else 0, and the word is told.
-fn tried<W: Write>(out: &mut W, words: &mut [u32], at: usize, more: u32) -> io::Result<u32>
-    ensures { IfOk result (λ n. n ≤ 1) }
-{
-    if is_refused(out, words, at, more)? {
-        return Ok(1);
+    // Offsets, capacities and counts. Zeros are a field record that no attrset owns, and a visited and an equal pair, so that with one
+    // more in words 14, 20 or 26, the counts of these, the words are an image still. No other is.
+    fn print_layout(&mut self) -> io::Result<()> {
+        self.print_added("Header words 9 to 26", &[Span { from: 9, end: 27 }])
     }
-    print(out, b" (word ")?;
-    print_size(out, at)?;
-    print(out, b" taken)")?;
-    Ok(0)
-}
 
-// How many changes at random of these words are refused.
-fn print_changes<W: Write>(
-    out: &mut W,
-    words: &mut [u32],
-    from: usize,
-    end: usize,
-) -> io::Result<()>
-    requires from_lt_end { from < end }
-    requires end_bound { end ≤ 283 }
-{
-    let refused = count_refused(out, words, from, end)?;
-    print_one(out, b" %", refused)
-}
-
-// The number of these, with the same numbers at random for each region.
-fn count_refused<W: Write>(
-    out: &mut W,
-    words: &mut [u32],
-    from: usize,
-    end: usize,
-) -> io::Result<u32>
-    requires from_lt_end { from < end }
-    requires end_bound { end ≤ 283 }
-{
-    let size = end - from;
-    let mut refused: u32 = 0;
-    let mut x: u32 = 1;
-    for _ in 0..CHANGES {
-        x = next(x);
-        let at = from + place(x, size);
-        x = next(x);
-        refused += one(is_refused(out, words, at, amount(x))?);
+    // How many of the words of each span are refused with one added, and with one taken away.
+    fn print_added(&mut self, what: &str, spans: &[Span]) -> io::Result<()> {
+        for (more, how) in ADDED {
+            write!(self.out, "{what}, {how}, refused:")?;
+            for span in spans {
+                self.print_each(*span, more)?;
+            }
+            writeln!(self.out)?;
+        }
+        Ok(())
     }
-    Ok(refused)
-}
 
-// 1 for true.
-fn one(b: bool) -> u32
-    ensures { result ≤ 1 }
-{
-    if b { 1 } else { 0 }
-}
+    // How many of the words are refused with so much added to one, and which are not.
+    fn print_each(&mut self, span: Span, more: u32) -> io::Result<()> {
+        let mut refused: u32 = 0;
+        for at in span.from..span.end {
+            if self.is_refused(at, more)? {
+                refused += 1;
+            } else {
+                write!(self.out, " (word {at} taken)")?;
+            }
+        }
+        write!(self.out, " {refused} of {}", span.end - span.from)
+    }
 
-// A place below size.
-fn place(x: u32, size: usize) -> usize
-    requires { 0 < size }
-    ensures { result < size }
-{
-    x as usize % size
+    // How many changes at random are refused, the header first, then each region.
+    fn print_random(&mut self) -> io::Result<()> {
+        write!(
+            self.out,
+            "Of {CHANGES} changes at random in the header and in each region, refused:"
+        )?;
+        for span in [
+            Span { from: 0, end: 27 },
+            Span { from: 27, end: 195 },
+            Span {
+                from: 195,
+                end: 219,
+            },
+            Span {
+                from: 219,
+                end: 243,
+            },
+            Span {
+                from: 243,
+                end: 259,
+            },
+            Span {
+                from: 259,
+                end: 275,
+            },
+            Span {
+                from: 275,
+                end: 283,
+            },
+        ] {
+            let refused = self.count_random(span)?;
+            write!(self.out, " {refused}")?;
+        }
+        writeln!(self.out)
+    }
+
+    // How many changes at random of these words are refused, with the same numbers at random for each span.
+    fn count_random(&mut self, span: Span) -> io::Result<u32> {
+        let size = span.end - span.from;
+        let mut random = Random(1);
+        let mut refused: u32 = 0;
+        for _ in 0..CHANGES {
+            let at = span.from + random.draw() as usize % size;
+            if self.is_refused(at, amount(random.draw()))? {
+                refused += 1;
+            }
+        }
+        Ok(refused)
+    }
+
+    // Whether the image is refused as none with so much added to a word. What a read and a mark answer must agree, and a mark that is
+    // refused must leave every word.
+    fn is_refused(&mut self, at: usize, more: u32) -> io::Result<bool> {
+        let mut changed = self.words;
+        if let Some(word) = changed.get_mut(at) {
+            *word = word.wrapping_add(more);
+        }
+        let read = read(&changed);
+        let mut marked = changed;
+        if mark(&mut marked) != read {
+            write!(self.out, "\nTHE CALLS DISAGREE\n")?;
+        }
+        match read {
+            Told::Taken => {}
+            Told::BadTable if marked == changed => {}
+            Told::BadTable => write!(self.out, "\nA REFUSAL CHANGED WORDS\n")?,
+            Told::Another => write!(self.out, "\nANOTHER REFUSAL\n")?,
+        }
+        Ok(read == Told::BadTable)
+    }
 }
 
 // What to add: often little, so that a number stays in its range.
@@ -185,62 +184,28 @@ fn amount(x: u32) -> u32 {
     if x % 4 == 0 { x } else { 1 + x / 4 % 15 }
 }
 
-// Whether the image is refused with so much added to a word, which is then put back.
-fn is_refused<W: Write>(out: &mut W, words: &mut [u32], at: usize, more: u32) -> io::Result<bool> {
-    if words.len() <= at {
-        return Ok(false);
-    }
-    let old = words[at];
-    words[at] = old.wrapping_add(more);
-    let told = told_both(out, words)?;
-    words[at] = old;
-    Ok(told == BAD_TABLE)
+// What a call answers: taken, refused as no image, or another refusal.
+#[derive(Clone, Copy, PartialEq, Eq)]
+enum Told {
+    Taken,
+    BadTable,
+    Another,
 }
 
-// What a read and a mark tell, which must agree. The mark is tried on a copy, which it must leave as it is where it is refused.
-fn told_both<W: Write>(out: &mut W, words: &[u32]) -> io::Result<u32> {
-    let told = told_read(words);
-    let mut copy = copied(words);
-    if told_mark(&mut copy) != told {
-        print(out, b"\nTHE CALLS DISAGREE\n")?;
-    }
-    if told == ANOTHER {
-        print(out, b"\nANOTHER REFUSAL\n")?;
-    }
-    if told == BAD_TABLE {
-        print_kept(out, same(&copy, words))?;
-    }
-    Ok(told)
-}
-
-// Tells of words that a refusal changed.
-fn print_kept<W: Write>(out: &mut W, is_same: bool) -> io::Result<()> {
-    if !is_same {
-        print(out, b"\nA REFUSAL CHANGED WORDS\n")?;
-    }
-    Ok(())
-}
-
-// What the read of an entry tells.
-fn told_read(words: &[u32]) -> u32 {
+// What the read of an entry answers.
+fn read(words: &[u32]) -> Told {
     match sheafwinch::entry(words, 0) {
-        EntryRead::Entry(_) => TAKEN,
-        EntryRead::Refused(r) => told_refusal(r),
+        EntryRead::Entry(_) => Told::Taken,
+        EntryRead::Refused(Refusal::BadTable) => Told::BadTable,
+        EntryRead::Refused(_) => Told::Another,
     }
 }
 
-// What a mark tells.
-fn told_mark(words: &mut [u32]) -> u32 {
+// What a mark answers.
+fn mark(words: &mut [u32]) -> Told {
     match sheafwinch::mark(words, 0) {
-        Reply::Done => TAKEN,
-        Reply::Refused(r) => told_refusal(r),
-    }
-}
-
-// Whether a refusal is 1.
-fn told_refusal(r: Refusal) -> u32 {
-    match r {
-        Refusal::BadTable => BAD_TABLE,
-        _ => ANOTHER,
+        Reply::Done => Told::Taken,
+        Reply::Refused(Refusal::BadTable) => Told::BadTable,
+        Reply::Refused(_) => Told::Another,
     }
 }

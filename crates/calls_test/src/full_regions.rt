@@ -1,94 +1,85 @@
 // A small script of calls at every capacity from 0 to what it needs: of one region while the others have room, then of several.
 // Visited, pending and equals are filled by questions: full_questions.rt.
-ghost use Rattle.std.specs.Prelude.{◌≡◌, length};
-
-use crate::script;
+use crate::script::{Call, room, run};
 use image::Capacities;
-use printing::{print, print_three};
+use image::format::{LOWER, UPPER};
+use model::Dynamic;
+use std::alloc::Global;
 use std::io;
 use std::io::Write;
-use table_words::size_of;
 
-// The script's calls, from the first to before the end.
-const FIRST: u32 = 0;
+// With room for all of them the makes answer 0 to 3, 6, 6, 7 and 8: the first negation is the union of two more. The attrsets are one
+// of fields x and y, and one of field `__functor` and a dynamic type. Then bounds of the variable, the first put twice, and two calls
+// that need no room.
+const CALLS: [Call; 14] = [
+    Call::Variable,
+    Call::Primitive(2),
+    Call::Primitive(4),
+    Call::Inter(1, 2),
+    Call::Neg(3),
+    Call::Neg(3),
+    Call::Attrset {
+        fields: &[1, 1, 0, 2, 2, 1],
+        is_open: false,
+        dynamic: Dynamic::Absent,
+    },
+    Call::Attrset {
+        fields: &[0, 0, 0],
+        is_open: true,
+        dynamic: Dynamic::Present(0),
+    },
+    Call::PutBound(0, LOWER, 0),
+    Call::PutBound(0, LOWER, 0),
+    Call::PutBound(0, UPPER, 1),
+    Call::PutBound(0, LOWER, 1),
+    Call::Mark(0),
+    Call::Enter,
+];
 
-const END: u32 = 14;
+// Capacities of entries, fields and bounds. The script needs 9 entries, 3 fields and 3 bounds. Where more than one region lacks room,
+// an attrset is told of entries first, and of fields where it has an entry.
+const LINES: [(u32, u32, u32); 19] = [
+    (0, 3, 3),
+    (1, 3, 3),
+    (2, 3, 3),
+    (3, 3, 3),
+    (4, 3, 3),
+    (5, 3, 3),
+    (6, 3, 3),
+    (7, 3, 3),
+    (8, 3, 3),
+    (9, 3, 3),
+    (9, 0, 3),
+    (9, 1, 3),
+    (9, 2, 3),
+    (9, 3, 0),
+    (9, 3, 1),
+    (9, 3, 2),
+    (4, 1, 0),
+    (5, 1, 0),
+    (8, 2, 1),
+];
 
-// A line for the capacities of entries, fields and bounds: the answers of the script's calls.
-pub fn print_lines<W: Write>(out: &mut W) -> io::Result<()> {
-    print(
+// A line for the capacities of entries, fields and bounds, two records of each other region: the answers of the script's calls.
+pub fn print_lines<W: Write>(out: &mut W, alloc: Global) -> io::Result<()> {
+    writeln!(
         out,
-        b"Entries, fields, bounds: what each call answers, rN where it is refused N, r5(R) where region R is full\n",
+        "Entries, fields, bounds: what each call answers, rN where it is refused N, r5(R) where region R is full"
     )?;
-    each_entries(out)?;
-    each_fields(out)?;
-    each_bounds(out)?;
-    several(out)
-}
-
-// Entries, which the script needs 9 of.
-fn each_entries<W: Write>(out: &mut W) -> io::Result<()> {
-    for n in 0..=9 {
-        print_line(out, n, 3, 3)?;
+    for (entries, fields, bounds) in LINES {
+        let capacities = Capacities {
+            entries,
+            fields,
+            bounds,
+            visited: 2,
+            pending: 2,
+            equals: 2,
+        };
+        write!(out, "{entries} {fields} {bounds}:")?;
+        let mut image = room(alloc, capacities)?;
+        let _ = sheafwinch::start(&mut image, 3, 1, capacities);
+        run(out, &mut image, &CALLS)?;
+        writeln!(out)?;
     }
     Ok(())
-}
-
-// Fields, which it needs 3 of.
-fn each_fields<W: Write>(out: &mut W) -> io::Result<()> {
-    print_line(out, 9, 0, 3)?;
-    print_line(out, 9, 1, 3)?;
-    print_line(out, 9, 2, 3)
-}
-
-// Bounds, which it needs 3 of.
-fn each_bounds<W: Write>(out: &mut W) -> io::Result<()> {
-    print_line(out, 9, 3, 0)?;
-    print_line(out, 9, 3, 1)?;
-    print_line(out, 9, 3, 2)
-}
-
-// More than one: an attrset is told of entries first, and of fields where it has an entry.
-fn several<W: Write>(out: &mut W) -> io::Result<()> {
-    print_line(out, 4, 1, 0)?;
-    print_line(out, 5, 1, 0)?;
-    print_line(out, 8, 2, 1)
-}
-
-// The capacities, and the answers on an image with these.
-fn print_line<W: Write>(out: &mut W, entries: u32, fields: u32, bounds: u32) -> io::Result<()> {
-    print_three(out, b"% % %:", entries, fields, bounds)?;
-    let mut words = room();
-    fill(out, &mut words, capacities(entries, fields, bounds))?;
-    print(out, b"\n")
-}
-
-// Words for the largest image.
-fn room() -> [u32; 120]
-    ensures { 120 ≡ length result }
-{
-    [7u32; 120]
-}
-
-// So many records of the first three regions, and two of each other.
-fn capacities(entries: u32, fields: u32, bounds: u32) -> Capacities {
-    Capacities {
-        entries: entries,
-        fields: fields,
-        bounds: bounds,
-        visited: 2,
-        pending: 2,
-        equals: 2,
-    }
-}
-
-// Starts the image in as many words as it takes, and runs the script.
-fn fill<W: Write>(out: &mut W, words: &mut [u32], c: Capacities) -> io::Result<()> {
-    let size = size_of(c);
-    if words.len() < size {
-        return Ok(());
-    }
-    let image = &mut words[0..size];
-    sheafwinch::start(image, 3, 1, c);
-    script::run(out, image, FIRST, END)
 }

@@ -6,7 +6,6 @@
 mod answers;
 mod bench_words;
 mod changed_words;
-mod copies;
 mod depth;
 mod full_questions;
 mod full_regions;
@@ -14,19 +13,14 @@ mod random_words;
 mod script;
 
 use std::io;
-use std::io::Write;
 
 fn main(rt: HostRuntime) -> io::Result<()> {
     let mut out = rt.stdout();
+    let alloc = rt.alloc();
     bench_words::print_table(&mut out)?;
-    full_regions::print_lines(&mut out)?;
-    full_questions::print_lines(&mut out)?;
-    depth::print_lines(&mut out)?;
+    full_regions::print_lines(&mut out, alloc)?;
+    full_questions::print_lines(&mut out, alloc)?;
+    depth::print_lines(&mut out, alloc)?;
     random_words::print_counts(&mut out)?;
     changed_words::print_refused(&mut out)
-}
-
-// A place or a size in decimal.
-fn print_size<W: Write>(out: &mut W, n: usize) -> io::Result<()> {
-    write!(out, "{n}")
 }
