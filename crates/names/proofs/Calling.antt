@@ -1,5 +1,4 @@
--- What the check of a name number tells: where it is done the list has the name, and where it is refused it is not accepted.
--- Assumes nothing.
+-- What the check of a name number tells: where it is done the list has the name. Assumes nothing.
 use Prim.Native.Nat.{ℕ, ◌<◌}
 use native.Mathlib.Omega.{arith}
 use mathlib.Core.Path.{◌≡◌, refl}
@@ -9,10 +8,8 @@ use lib.Dec.{ltb}
 use borrow.Author.Tests.{ltb-true}
 use Rattle.model.specs.Lists.{all_of}
 use Rattle.model.specs.Told.{Told, done, told_refusal}
-use Rattle.model.specs.declared.Refusal.{Refusal}
 use Rattle.model.specs.declared.Refusal.TheVariants.{BadNumber, BadNames}
-use Rattle.names.specs.Names.{name_count, names_right, name_call, check_name, accepted}
-use Rattle.names.proofs.OneToOne.{done_refused}
+use Rattle.names.specs.Names.{name_count, names_right, name_call, check_name}
 
 -- a name number that is accepted: the list is right, and has the name
 pub record Named (bs : List ℕ) (n : ℕ) : Type 0 where
@@ -33,12 +30,3 @@ unfolding check_name name_call all_of
 named bs n e =
     let q = both_true (names_right bs) (ltb n (name_count bs)) e in
     record { right = q.0; below = ltb-true n (name_count bs) q.1 }
-
-some_false : (t u : Bool) (r : Refusal) → by_tests t u ≡ told_refusal r → accepted (by_tests t u) ≡ false
-some_false true true r e = absurd (done_refused [] r e)
-some_false true false r e = refl
-some_false false u r e = refl
-
-pub not_accepted : (bs : List ℕ) (n : ℕ) (r : Refusal) → check_name bs n ≡ told_refusal r → accepted (check_name bs n) ≡ false
-unfolding check_name name_call all_of
-not_accepted bs n = some_false (names_right bs) (ltb n (name_count bs))
