@@ -151,3 +151,8 @@ shown_at bs n = cond (accepted (check_name bs n)) (name_at bs n) 0
 -- the same for a caller who gets two numbers: where the name starts, and how many bytes it has
 unfoldable pub place_name : List ℕ → ℕ → Told
 place_name bs n = name_call bs (n ∷ []) (done (name_at bs n ∷ length (name_of bs n) ∷ []))
+
+-- to compute: unfolds the calls
+unfoldable pub calling : Unit {0}
+unfolding all_of name_call check_names check_name count_names compare_at find_name show_name shown_at place_name
+calling = tt

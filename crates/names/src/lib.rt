@@ -211,7 +211,7 @@ pub fn compare_parts(a: &[u8], b: &[u8]) -> Ordering
 }
 
 // Tells whether the bytes are a name list.
-#[tactic(auto, unfolding(crate::specs::Names::check_names, crate::specs::Names::name_call, model::specs::Lists::all_of))]
+#[tactic(auto, unfolding(crate::specs::Names::calling))]
 pub fn check(list: &[u8]) -> Result<(), Refusal>
     ensures { told_reply result ≡ check_names list.now }
 {
@@ -220,7 +220,7 @@ pub fn check(list: &[u8]) -> Result<(), Refusal>
 }
 
 // Tells whether the list has a name n, and so why `show` gives the empty part.
-#[tactic(auto, unfolding(crate::specs::Names::check_name, crate::specs::Names::name_call, model::specs::Lists::all_of))]
+#[tactic(auto, unfolding(crate::specs::Names::calling))]
 pub fn check_name(list: &[u8], n: u32) -> Result<(), Refusal>
     ensures { told_reply result ≡ check_name list.now n }
 {
@@ -229,7 +229,7 @@ pub fn check_name(list: &[u8], n: u32) -> Result<(), Refusal>
 }
 
 // The number of names.
-#[tactic(auto, unfolding(crate::specs::Names::count_names, crate::specs::Names::name_call, model::specs::Lists::all_of))]
+#[tactic(auto, unfolding(crate::specs::Names::calling))]
 pub fn count(list: &[u8]) -> Result<u32, Refusal>
     ensures { told_counted result ≡ count_names list.now }
 {
@@ -238,7 +238,7 @@ pub fn count(list: &[u8]) -> Result<u32, Refusal>
 }
 
 // The part of the lent list that holds name n; where that is refused, the empty part at its start.
-#[tactic(auto, unfolding(crate::specs::Names::show_name, crate::specs::Names::shown_at, crate::specs::Names::check_name, crate::specs::Names::name_call, model::specs::Lists::all_of))]
+#[tactic(auto, unfolding(crate::specs::Names::calling))]
 pub fn show(list: &[u8], n: u32) -> &[u8]
     ensures bytes { result.now ≡ show_name list.now n }
     ensures place { result.ref_ptr ≡ (list.entry.ref_ptr.0, shown_at list.now n + list.entry.ref_ptr.1) }
@@ -253,7 +253,7 @@ pub fn show(list: &[u8], n: u32) -> &[u8]
 }
 
 // Where the part that `show` shows stands: for a caller who cannot be handed a part of the list.
-#[tactic(auto, using(crate::proofs::Placing::name_length), unfolding(crate::specs::Names::place_name, crate::specs::Names::name_call, model::specs::Lists::all_of))]
+#[tactic(auto, using(crate::proofs::Placing::name_length), unfolding(crate::specs::Names::calling))]
 pub fn place(list: &[u8], n: u32) -> Result<Placed, Refusal>
     ensures { told_placed result ≡ place_name list.now n }
 {
@@ -268,7 +268,7 @@ pub fn place(list: &[u8], n: u32) -> Result<Placed, Refusal>
 }
 
 // How names i and j compare.
-#[tactic(auto, unfolding(crate::specs::Names::compare_at, crate::specs::Names::name_call, model::specs::Lists::all_of))]
+#[tactic(auto, unfolding(crate::specs::Names::calling))]
 pub fn compare(list: &[u8], i: u32, j: u32) -> Result<Ordering, Refusal>
     ensures { told_compared result ≡ compare_at list.now i j }
 {
@@ -279,7 +279,7 @@ pub fn compare(list: &[u8], i: u32, j: u32) -> Result<Ordering, Refusal>
 }
 
 // The number of the name that has these bytes.
-#[tactic(auto, unfolding(crate::specs::Names::find_name, crate::specs::Names::name_call, model::specs::Lists::all_of))]
+#[tactic(auto, unfolding(crate::specs::Names::calling))]
 pub fn find(list: &[u8], bytes: &[u8]) -> Result<Option<u32>, Refusal>
     ensures { told_found result ≡ find_name list.now bytes.now }
 {

@@ -20,12 +20,7 @@ pub fn number(r: Refusal) -> u32
         Refusal::NoRoom(_) => 5,
         Refusal::TooDeep => 6,
         Refusal::BadFields => 7,
-        Refusal::Broken {
-            kind: _,
-            sub: _,
-            sup: _,
-            name: _,
-        } => 8,
+        Refusal::Broken { .. } => 8,
         Refusal::BadCapacity => 9,
         Refusal::Level => 10,
         Refusal::NotAVariable => 11,
@@ -45,20 +40,20 @@ pub fn carried(r: Refusal) -> Carried
             sup,
             name,
         } => Carried::Break {
-            kind: kind,
-            sub: sub,
-            sup: sup,
-            name: name,
+            kind,
+            sub,
+            sup,
+            name,
         },
-        Refusal::BadTable => Carried::Nothing,
-        Refusal::BadNumber => Carried::Nothing,
-        Refusal::Busy => Carried::Nothing,
-        Refusal::Idle => Carried::Nothing,
-        Refusal::TooDeep => Carried::Nothing,
-        Refusal::BadFields => Carried::Nothing,
-        Refusal::BadCapacity => Carried::Nothing,
-        Refusal::Level => Carried::Nothing,
-        Refusal::NotAVariable => Carried::Nothing,
-        Refusal::BadNames => Carried::Nothing,
+        Refusal::BadTable
+        | Refusal::BadNumber
+        | Refusal::Busy
+        | Refusal::Idle
+        | Refusal::TooDeep
+        | Refusal::BadFields
+        | Refusal::BadCapacity
+        | Refusal::Level
+        | Refusal::NotAVariable
+        | Refusal::BadNames => Carried::Nothing,
     }
 }
