@@ -20,7 +20,7 @@ ghost use Rattle.image.specs.Shown.{store_of, entries_of, fields_in, bounds_all}
 ghost use Rattle.image.specs.Records.{field_at, bound_at};
 ghost use Rattle.formed.specs.Grouped.{header_right, RegionInside, pair_of};
 
-use model::{Admission, Refusal};
+use model::Refusal;
 
 // A word as a length.
 fn wide(x: u32) -> usize
@@ -285,12 +285,12 @@ pub fn check(image: &[u32]) -> bool
 }
 
 // Whether an image is fit for a call: good, or which refusal.
-pub fn admit(image: &[u32]) -> Admission
+pub fn admit(image: &[u32]) -> Result<(), Refusal>
     ensures { result ≡ admission image.now }
 {
     if check(image) {
-        Admission::Good
+        Ok(())
     } else {
-        Admission::Unfit(Refusal::BadTable)
+        Err(Refusal::BadTable)
     }
 }

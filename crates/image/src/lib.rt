@@ -17,7 +17,7 @@ ghost use Rattle.image.specs.Laid.{Laid, At};
 ghost use Rattle.image.specs.Shown.{Shown, store_of, entries_of, fields_in, bounds_all, visited_in, pending_in, equals_in};
 ghost use Rattle.image.specs.Records.{field_at, bound_at, visited_at, pending_at, equal_at, says_mark, says_open, says_dynamic, dynamic_read, attrset_read};
 
-use model::{Attrset, Dynamic, Entry};
+use model::{Attrset, Entry};
 
 // How many records each region takes.
 #[derive(Clone, Copy)]
@@ -275,27 +275,21 @@ pub fn says_dynamic(flags: u32) -> bool
 }
 
 // The dynamic type that the flags and z of an attrset tell.
-fn dynamic(flags: u32, z: u32) -> Dynamic
+fn dynamic(flags: u32, z: u32) -> Option<u32>
     ensures { result ≡ dynamic_read flags z }
 {
-    if says_dynamic(flags) {
-        Dynamic::Present(z)
-    } else {
-        Dynamic::Absent
-    }
+    says_dynamic(flags).then_some(z)
 }
 
 // An attrset from its entry's words.
 fn attrset(x: u32, y: u32, z: u32, flags: u32) -> Attrset
     ensures { result ≡ attrset_read x y z flags }
 {
-    let open = says_open(flags);
-    let type_of = dynamic(flags, z);
     Attrset {
         first: x,
         count: y,
-        is_open: open,
-        dynamic: type_of,
+        is_open: says_open(flags),
+        dynamic: dynamic(flags, z),
     }
 }
 

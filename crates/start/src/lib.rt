@@ -12,7 +12,7 @@ ghost use Rattle.model.specs.Told.{told_reply};
 ghost use Rattle.image.specs.Stores.{capacities_of, headed_from};
 
 use image::Capacities;
-use model::{Refusal, Reply};
+use model::Refusal;
 
 // Whether no capacity is over its maximum. Here and below, `sizes` are the capacities, in the regions' order.
 fn all_small(sizes: &[u32]) -> bool
@@ -103,7 +103,7 @@ fn capacities_right(image: &[u32], names: u32, functor: u32, sizes: &[u32]) -> b
 }
 
 // Starts an image: idle, at level 0, with nothing in its regions. A refusal leaves every word as found.
-pub fn start(image: &mut [u32], names: u32, functor: u32, capacities: Capacities) -> Reply
+pub fn start(image: &mut [u32], names: u32, functor: u32, capacities: Capacities) -> Result<(), Refusal>
     ensures result_value { told_reply result ≡ (start_of names functor (capacities_of capacities) image.old).says }
     ensures image_after { image.new ≡ (start_of names functor (capacities_of capacities) image.old).words }
 {
@@ -116,9 +116,9 @@ pub fn start(image: &mut [u32], names: u32, functor: u32, capacities: Capacities
         capacities.equals,
     ];
     if !capacities_right(image, names, functor, &sizes) {
-        return Reply::Refused(Refusal::BadCapacity);
+        return Err(Refusal::BadCapacity);
     }
     clear(image);
     put_header(image, names, functor, &sizes);
-    Reply::Done
+    Ok(())
 }
