@@ -142,10 +142,9 @@ fn gather(image: &[u32], a: Attrset, b: Attrset) -> Next
     requires inside_2 { Inside (fields_in image.now) b }
     ensures { result ≡ gathered_in (fields_in image.now) a b }
 {
-    let mut j = b.first;
     let end = j + b.count;
     let mut n: u32 = 0;
-    while j < end {
+    for j in b.first..end {
         let ask = asks(image, a, j);
         match ask {
             FieldAsk::Under(_) => {
@@ -156,7 +155,6 @@ fn gather(image: &[u32], a: Attrset, b: Attrset) -> Next
                 return Next::Missing(image::field_word(image, j, image::format::NAME_WORD));
             }
         }
-        j += 1;
     }
     let sub_dynamic = a.dynamic;
     let sup_dynamic = b.dynamic;

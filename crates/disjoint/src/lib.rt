@@ -35,47 +35,45 @@ pub enum Shape {
 }
 
 // Whether there is one.
-fn is_found(f: FieldFound) -> bool
+fn is_found(f: Option<u32>) -> bool
     ensures { result ≡ is_found f }
 {
     match f {
-        FieldFound::At(_) => true,
-        FieldFound::Nothing => false,
+        Some(_) => true,
+        None => false,
     }
 }
 
 // The record of the field with that name, among the records first to first + count - 1.
-pub fn field_named(image: &[u32], first: u32, count: u32, name: u32) -> FieldFound
+pub fn field_named(image: &[u32], first: u32, count: u32, name: u32) -> Option<u32>
     requires laid { Laid image.now }
     requires count_in_bounds { first + count ≤ length (fields_in image.now) }
     ensures { result ≡ number_named (fields_in image.now) first count name }
 {
     let end = first + count;
-    let mut i = first;
-    while i < end {
+    for i in first..end {
         if image::field_word(image, i, image::format::NAME_WORD) == name {
-            return FieldFound::At(i);
+            return Some(i);
         }
-        i += 1;
     }
-    FieldFound::Nothing
+    None
 }
 
 // The record of the field `__functor` among these.
-fn functor_among(image: &[u32], first: u32, count: u32) -> FieldFound
+fn functor_among(image: &[u32], first: u32, count: u32) -> Option<u32>
     requires laid { Laid image.now }
     requires count_in_bounds { first + count ≤ length (fields_in image.now) }
     ensures { result ≡ functor_number (fields_in image.now) first count (store_of image.now).functor }
 {
     let word = image::functor(image);
     if word == 0 {
-        return FieldFound::Nothing;
+        return None;
     }
     field_named(image, first, count, word - 1)
 }
 
 // The record of the field `__functor` of entry n, if it is an attrset that has one.
-pub fn functor_of(image: &[u32], n: u32) -> FieldFound
+pub fn functor_of(image: &[u32], n: u32) -> Option<u32>
     requires laid { Laid image.now }
     requires good { Good (store_of image.now) }
     requires n_in_bounds { n < length (entries_of image.now) }
@@ -83,7 +81,7 @@ pub fn functor_of(image: &[u32], n: u32) -> FieldFound
 {
     let e = image::entry(image, n);
     let Entry::AttrSet(a) = e else {
-        return FieldFound::Nothing;
+        return None;
     };
     functor_among(image, a.first, a.count)
 }
@@ -129,13 +127,11 @@ fn lacks_some(image: &[u32], a: Attrset, b: Attrset) -> bool
     requires inside_2 { Inside (fields_in image.now) b }
     ensures { result ≡ lacks_some (fields_in image.now) a b }
 {
-    let mut j = b.first;
     let end = j + b.count;
-    while j < end {
+    for j in b.first..end {
         if lacks_field(image, a, j) {
             return true;
         }
-        j += 1;
     }
     false
 }

@@ -23,14 +23,12 @@ pub fn listed(names: u32, fields: &[u32]) -> bool
     let n = fields.len() / image::format::FIELD_WIDTH;
     let mut ok = fields.len() % image::format::FIELD_WIDTH == 0;
     let mut least = 0;
-    let mut i = 0;
-    while i < n {
+    for i in 0..n {
         let at = image::format::FIELD_WIDTH * i;
         let name = fields[at];
         let optional = fields[at + 2];
         ok = ok & ((least <= wide(name)) & (name < names) & (optional <= image::format::OPTIONAL));
         least = wide(name) + 1;
-        i += 1;
     }
     ok
 }
@@ -41,12 +39,10 @@ pub fn known(count: u32, fields: &[u32]) -> bool
 {
     let n = fields.len() / image::format::FIELD_WIDTH;
     let mut ok = true;
-    let mut i = 0;
-    while i < n {
+    for i in 0..n {
         let at = image::format::FIELD_WIDTH * i;
         let entry = fields[at + 1];
         ok = ok & (entry < count);
-        i += 1;
     }
     ok
 }

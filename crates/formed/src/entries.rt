@@ -169,13 +169,11 @@ fn own_right(image: &[u32], i: u32, first: u32, fields: u32) -> bool
     let names = image[image::format::NAMES_AT];
     let mut ok = true;
     let mut least = 0;
-    let mut k = 0;
-    while k < fields {
+    for k in 0..fields {
         let name = image::field_word(image, first + k, image::format::NAME_WORD);
         let entry = image::field_word(image, first + k, image::format::ENTRY_WORD);
         ok = ok & ((least <= wide(name)) & (name < names) & (entry < i));
         least = wide(name) + 1;
-        k += 1;
     }
     ok
 }
@@ -218,10 +216,8 @@ pub fn entries_right(image: &[u32]) -> bool
 {
     let n = image[image::format::ENTRIES_COUNT_AT];
     let mut ok = true;
-    let mut i = 0;
-    while i < n {
+    for i in 0..n {
         ok = ok & entry_right(image, i);
-        i += 1;
     }
     ok
 }

@@ -34,10 +34,8 @@ fn zeros(part: &[u32]) -> bool
     ensures { result ≡ all is_zero part.now }
 {
     let mut ok = true;
-    let mut i = 0;
-    while i < part.len() {
-        ok = ok & (part[i] == 0);
-        i += 1;
+    for w in part {
+        ok = ok & (*w == 0);
     }
     ok
 }
@@ -47,10 +45,8 @@ fn below(part: &[u32], limit: u32) -> bool
     ensures { result ≡ all (λ w. ltb w limit) part.now }
 {
     let mut ok = true;
-    let mut i = 0;
-    while i < part.len() {
-        ok = ok & (part[i] < limit);
-        i += 1;
+    for w in part {
+        ok = ok & (*w < limit);
     }
     ok
 }
@@ -111,8 +107,7 @@ fn regions_right(image: &[u32]) -> bool
     ensures { result ≡ regions_right (regions newest) 1 header_words image.now }
 {
     let mut at: usize = image::format::HEADER_WORDS;
-    let mut k: usize = 0;
-    while k < image::format::REGIONS {
+    for k in 0..image::format::REGIONS {
         let room = capacity(image, k + 1);
         if offset(image, k + 1) != at {
             return false;
@@ -124,7 +119,6 @@ fn regions_right(image: &[u32]) -> bool
             return false;
         }
         at = at + image::format::WIDTHS[k] * room;
-        k += 1;
     }
     at == image.len()
 }
@@ -146,10 +140,8 @@ fn rests_zero(image: &[u32]) -> bool
     ensures { result ≡ rests_zero (rows newest) 1 image.now }
 {
     let mut ok = true;
-    let mut k: usize = 0;
-    while k < image::format::ROWS {
+    for k in 0..image::format::ROWS {
         ok = ok & rest_zero(image, k + 1, image::format::WIDTHS[k]);
-        k += 1;
     }
     ok
 }
@@ -193,10 +185,8 @@ fn fields_right(image: &[u32]) -> bool
 {
     let n = image[image::format::FIELDS_COUNT_AT];
     let mut ok = true;
-    let mut i = 0;
-    while i < n {
+    for i in 0..n {
         ok = ok & field_right(image, i);
-        i += 1;
     }
     ok
 }
@@ -237,12 +227,10 @@ fn bounds_right(image: &[u32]) -> bool
     ensures { result ≡ all (bound_right (entries_of image.now)) (bounds_all image.now) }
 {
     let n = image[image::format::BOUNDS_COUNT_AT];
-    let mut i = 0;
-    while i < n {
+    for i in 0..n {
         if !bound_right(image, i) {
             return false;
         }
-        i += 1;
     }
     true
 }

@@ -338,12 +338,10 @@ fn has_pair(region: &[u32], n: usize, a: u32, b: u32) -> bool
     ensures { result ≡ any (same_pair (a ⊑ b)) (read_many visited_of (drop 2) n region.now) }
 {
     let key = join(a, b);
-    let mut i = 0;
-    while i < n {
+    for i in 0..n {
         if join(region[2 * i], region[2 * i + 1]) == key {
             return true;
         }
-        i += 1;
     }
     false
 }

@@ -9,17 +9,17 @@ ghost use Rattle.model.specs.Formed.{well_formed};
 ghost use Rattle.model.specs.Calls.{response_of, read_entry_turn, read_record_turn, read_disjoint_turn};
 ghost use Rattle.model.specs.Told.{told_entry_read, told_record, told_disjointness};
 
-use model::{Disjointness, EntryRead, Record, Refusal};
+use model::{Record, Refusal};
 
 // Reads an entry out.
-pub fn entry_in(image: &[u32], n: u32) -> EntryRead
+pub fn entry_in(image: &[u32], n: u32) -> Result<Entry, Refusal>
     requires { T (well_formed image.now) }
     ensures { told_entry_read result ≡ (response_of image.now (read_entry_turn n (table image.now))).says }
 {
     if image::entries_count(image) <= n {
-        return EntryRead::Refused(Refusal::BadNumber);
+        return Err(Refusal::BadNumber);
     }
-    EntryRead::Entry(image::entry(image, n))
+    Ok(image::entry(image, n))
 }
 
 // Reads record n of a region, 1 to 6, as it stands.
@@ -34,7 +34,7 @@ pub fn record_in(image: &[u32], region: u32, n: u32) -> Record
         4 => visited_record(image, n),
         5 => pending_record(image, n),
         6 => equal_record(image, n),
-        _ => Record::Refused(Refusal::BadNumber),
+        _ => Err(Refusal::BadNumber),
     }
 }
 
@@ -44,7 +44,7 @@ fn entry_record(image: &[u32], n: u32) -> Record
     ensures { told_record result ≡ (response_of image.now (read_record_turn 1 n image.now)).says }
 {
     if image::entries_count(image) <= n {
-        return Record::Refused(Refusal::BadNumber);
+        return Err(Refusal::BadNumber);
     }
     let kind_word = image::entry_word(image, n, image::format::KIND_WORD);
     let x_word = image::entry_word(image, n, image::format::X_WORD);
@@ -70,7 +70,7 @@ fn field_record(image: &[u32], n: u32) -> Record
     ensures { told_record result ≡ (response_of image.now (read_record_turn 2 n image.now)).says }
 {
     if image::fields_count(image) <= n {
-        return Record::Refused(Refusal::BadNumber);
+        return Err(Refusal::BadNumber);
     }
     let name_word = image::field_word(image, n, image::format::NAME_WORD);
     let entry_word = image::field_word(image, n, image::format::ENTRY_WORD);
@@ -88,7 +88,7 @@ fn bound_record(image: &[u32], n: u32) -> Record
     ensures { told_record result ≡ (response_of image.now (read_record_turn 3 n image.now)).says }
 {
     if image::bounds_count(image) <= n {
-        return Record::Refused(Refusal::BadNumber);
+        return Err(Refusal::BadNumber);
     }
     let variable_word = image::bound_word(image, n, image::format::VARIABLE_WORD);
     let side_word = image::bound_word(image, n, image::format::SIDE_WORD);
@@ -106,7 +106,7 @@ fn visited_record(image: &[u32], n: u32) -> Record
     ensures { told_record result ≡ (response_of image.now (read_record_turn 4 n image.now)).says }
 {
     if image::visited_count(image) <= n {
-        return Record::Refused(Refusal::BadNumber);
+        return Err(Refusal::BadNumber);
     }
     let sub_word = image::visited_word(image, n, image::format::VISITED_SUB_WORD);
     let sup_word = image::visited_word(image, n, image::format::VISITED_SUP_WORD);
@@ -122,7 +122,7 @@ fn pending_record(image: &[u32], n: u32) -> Record
     ensures { told_record result ≡ (response_of image.now (read_record_turn 5 n image.now)).says }
 {
     if image::pending_count(image) <= n {
-        return Record::Refused(Refusal::BadNumber);
+        return Err(Refusal::BadNumber);
     }
     let sub_word = image::pending_word(image, n, image::format::PENDING_SUB_WORD);
     let sup_word = image::pending_word(image, n, image::format::PENDING_SUP_WORD);
@@ -138,7 +138,7 @@ fn equal_record(image: &[u32], n: u32) -> Record
     ensures { told_record result ≡ (response_of image.now (read_record_turn 6 n image.now)).says }
 {
     if image::equals_count(image) <= n {
-        return Record::Refused(Refusal::BadNumber);
+        return Err(Refusal::BadNumber);
     }
     let left_word = image::equal_word(image, n, image::format::EQUAL_LEFT_WORD);
     let right_word = image::equal_word(image, n, image::format::EQUAL_RIGHT_WORD);
@@ -149,19 +149,19 @@ fn equal_record(image: &[u32], n: u32) -> Record
 }
 
 // Whether two entries share no value.
-pub fn disjoint_in(image: &[u32], a: u32, b: u32) -> Disjointness
+pub fn disjoint_in(image: &[u32], a: u32, b: u32) -> Result<bool, Refusal>
     requires { T (well_formed image.now) }
     ensures { told_disjointness result ≡ (response_of image.now (read_disjoint_turn a b (table image.now))).says }
 {
     if image::entries_count(image) <= a {
-        return Disjointness::Refused(Refusal::BadNumber);
+        return Err(Refusal::BadNumber);
     }
     if image::entries_count(image) <= b {
-        return Disjointness::Refused(Refusal::BadNumber);
+        return Err(Refusal::BadNumber);
     }
     if disjoint::are_types_disjoint(image, a, b) {
-        Disjointness::Disjoint
+        Ok(true)
     } else {
-        Disjointness::NotDisjoint
+        Ok(false)
     }
 }

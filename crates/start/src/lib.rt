@@ -20,10 +20,8 @@ fn all_small(sizes: &[u32]) -> bool
     ensures { result ≡ all_small (regions newest) sizes.now }
 {
     let mut ok = true;
-    let mut k: usize = 0;
-    while k < image::format::REGIONS {
+    for k in 0..image::format::REGIONS {
         ok = ok & (sizes[k] <= image::format::MOSTS[k]);
-        k += 1;
     }
     ok
 }
@@ -35,10 +33,8 @@ fn size_of(sizes: &[u32]) -> usize
     ensures { result ≡ header_words + size_of (regions newest) sizes.now }
 {
     let mut at: usize = image::format::HEADER_WORDS;
-    let mut k: usize = 0;
-    while k < image::format::REGIONS {
+    for k in 0..image::format::REGIONS {
         at = at + image::format::WIDTHS[k] * image::wide(sizes[k]);
-        k += 1;
     }
     at
 }
@@ -47,11 +43,7 @@ fn size_of(sizes: &[u32]) -> usize
 fn clear(image: &mut [u32])
     ensures { image.new ≡ replicate (length image.old) 0 }
 {
-    let mut at = 0;
-    while at < image.len() {
-        image[at] = 0;
-        at += 1;
-    }
+    image.fill(0);
 }
 
 // Writes the format, the name count and the functor word.
@@ -83,11 +75,9 @@ fn put_header(image: &mut [u32], names: u32, functor: u32, sizes: &[u32])
 {
     put_front(image, names, functor);
     let mut at: usize = image::format::HEADER_WORDS;
-    let mut k: usize = 0;
-    while k < image::format::REGIONS {
+    for k in 0..image::format::REGIONS {
         put_region(image, k + 1, at as u32, sizes[k]);
         at = at + image::format::WIDTHS[k] * image::wide(sizes[k]);
-        k += 1;
     }
 }
 

@@ -167,12 +167,10 @@ fn is_deep(image: &[u32], old: u32) -> bool
     requires shallow { Shallow (take old (entries_of image.now)) }
     ensures { result ≡ too_deep (entries_of image.now) }
 {
-    let mut i = old;
-    while i < image::entries_count(image) {
+    for i in old..image::entries_count(image) {
         if image::format::SPREAD_MOST < image::entry_word(image, i, image::format::SPREAD_WORD) {
             return true;
         }
-        i += 1;
     }
     false
 }

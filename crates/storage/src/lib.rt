@@ -15,7 +15,7 @@ ghost use Rattle.image.specs.Records.{bound_at};
 ghost use Rattle.storage.specs.Bounds.{belongs_to, is_bound};
 ghost use Rattle.storage.specs.Replies.{bound_response, enter_response, exit_response};
 
-use model::{Refusal, Reply};
+use model::Refusal;
 
 // The last level.
 const LEVEL_MOST: u32 = 4294967295;
@@ -45,10 +45,8 @@ pub fn count_bounds(image: &[u32], n: u32, v: u32, side: u32) -> u32
     ensures { result ≡ length (bounds_in (bounds_all image.now) v side) }
 {
     let mut found: u32 = 0;
-    let mut i: u32 = 0;
-    while i < n {
+    for i in 0..n {
         found += bit(belongs(image, i, v, side));
-        i += 1;
     }
     found
 }
@@ -70,12 +68,10 @@ pub fn has_bound(image: &[u32], n: u32, v: u32, side: u32, b: u32) -> bool
     requires n_value { n ≡ length (bounds_all image.now) }
     ensures { result ≡ any (eqb b) (bounds_in (bounds_all image.now) v side) }
 {
-    let mut i: u32 = 0;
-    while i < n {
+    for i in 0..n {
         if is_bound(image, i, v, side, b) {
             return true;
         }
-        i += 1;
     }
     false
 }
@@ -94,20 +90,20 @@ pub fn repeats_bound(image: &[u32], n: u32, v: u32, side: u32, b: u32) -> bool
 }
 
 // Puts b as a bound of v on a side, unless it would repeat one.
-pub fn put_bound(image: &mut [u32], v: u32, side: u32, b: u32) -> Reply
+pub fn put_bound(image: &mut [u32], v: u32, side: u32, b: u32) -> Result<(), Refusal>
     requires { T (well_formed image.old) }
     ensures result_value { told_reply result ≡ (bound_response image.old v side b).says }
     ensures image_after { image.new ≡ (bound_response image.old v side b).words }
 {
     let n = image::bounds_count(image);
     if repeats_bound(image, n, v, side, b) {
-        return Reply::Done;
+        return Ok(());
     }
     if image::bounds_capacity(image) <= n {
-        return Reply::Refused(Refusal::NoRoom(image::format::BOUNDS));
+        return Err(Refusal::NoRoom(image::format::BOUNDS));
     }
     writes::push_bound(image, v, side, b);
-    Reply::Done
+    Ok(())
 }
 
 // Marks entry n.
@@ -129,29 +125,29 @@ pub fn set_var_level(image: &mut [u32], v: u32, l: u32)
 }
 
 // Enters a level.
-pub fn enter_level(image: &mut [u32]) -> Reply
+pub fn enter_level(image: &mut [u32]) -> Result<(), Refusal>
     requires { Shown image.old }
     ensures result_value { told_reply result ≡ (enter_response image.old).says }
     ensures image_after { image.new ≡ (enter_response image.old).words }
 {
     let l = image::level(image);
     if l == LEVEL_MOST {
-        return Reply::Refused(Refusal::Level);
+        return Err(Refusal::Level);
     }
     writes::put_current_level(image, l + 1);
-    Reply::Done
+    Ok(())
 }
 
 // Leaves a level.
-pub fn exit_level(image: &mut [u32]) -> Reply
+pub fn exit_level(image: &mut [u32]) -> Result<(), Refusal>
     requires { Shown image.old }
     ensures result_value { told_reply result ≡ (exit_response image.old).says }
     ensures image_after { image.new ≡ (exit_response image.old).words }
 {
     let l = image::level(image);
     if l == 0 {
-        return Reply::Refused(Refusal::Level);
+        return Err(Refusal::Level);
     }
     writes::put_current_level(image, l - 1);
-    Reply::Done
+    Ok(())
 }

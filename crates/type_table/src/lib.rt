@@ -14,7 +14,7 @@ ghost use Rattle.image.specs.Laid.{Laid};
 ghost use Rattle.image.specs.Shown.{Shows, Shown, store_of, entries_of, fields_in, entries_to, fields_to};
 ghost use Rattle.type_table.specs.Made.{made_response, attrset_response, first_field, Components, Added, Negatable, NegatedIn};
 
-use model::{Dynamic, Made, Refusal};
+use model::Refusal;
 
 // How far an entry of this kind, with these words, spreads.
 fn spread_of(image: &[u32], kind: u32, x: u32, y: u32) -> u32
@@ -33,7 +33,7 @@ fn spread_of(image: &[u32], kind: u32, x: u32, y: u32) -> u32
 }
 
 // Makes an entry that has no z and no flags: the Rust's `alloc_concrete`, and `new_var`.
-pub fn make(image: &mut [u32], kind: u32, x: u32, y: u32) -> Made
+pub fn make(image: &mut [u32], kind: u32, x: u32, y: u32) -> Result<u32, Refusal>
     requires t { T (well_formed image.old) }
     requires components { Components (entries_of image.old) kind x y }
     ensures result_value { told_made result ≡ (made_response image.old (new_entry (entries_of image.old) kind x y)).says }
@@ -41,36 +41,29 @@ pub fn make(image: &mut [u32], kind: u32, x: u32, y: u32) -> Made
 {
     let number = image::entries_count(image);
     if image::entries_capacity(image) <= number {
-        return Made::Refused(Refusal::NoRoom(image::format::ENTRIES));
+        return Err(Refusal::NoRoom(image::format::ENTRIES));
     }
     let spread = spread_of(image, kind, x, y);
     if image::format::SPREAD_MOST < spread {
-        return Made::Refused(Refusal::TooDeep);
+        return Err(Refusal::TooDeep);
     }
     writes::push_entry(image, kind, x, y, 0, 0, spread);
-    Made::Number(number)
+    Ok(number)
 }
 
-// What negating comes to: the number, or no room.
-#[derive(Drop)]
-pub enum Negated {
-    Number(u32),
-    Full,
-}
-
-// Puts an entry, cached as the negation of n, if there is room.
-fn add(image: &mut [u32], kind: u32, x: u32, y: u32, spread: u32, n: u32) -> Negated
+// Puts an entry, cached as the negation of n, if there is room: its number.
+fn add(image: &mut [u32], kind: u32, x: u32, y: u32, spread: u32, n: u32) -> Option<u32>
     requires shown { Shown image.old }
     requires n_in_bounds { n < length (entries_of image.old) }
     ensures { Added (table image.old) kind x y spread n result image.new }
 {
     let number = image::entries_count(image);
     if image::entries_capacity(image) <= number {
-        return Negated::Full;
+        return None;
     }
     writes::push_entry(image, kind, x, y, 0, 0, spread);
     writes::put_negation(image, n, number + 1);
-    Negated::Number(number)
+    Some(number)
 }
 
 // Takes off every entry from number old on.
@@ -91,23 +84,21 @@ pub fn undo(image: &mut [u32], old: u32)
     ensures { Shows image.new (entries_to image.old (undone old (entries_of image.old))) }
 {
     pop_to(image, old);
-    let mut i: u32 = 0;
-    while i < old {
+    for i in 0..old {
         if old < image::entry_word(image, i, image::format::NEGATION_WORD) {
             writes::put_negation(image, i, 0);
         }
-        i += 1;
     }
 }
 
 // Makes Neg(n), entry by entry, as far as there is room: what the Rust's `alloc_concrete` does with a negation.
-pub fn negate(image: &mut [u32], n: u32) -> Negated
+pub fn negate(image: &mut [u32], n: u32) -> Option<u32>
     requires { Negatable image.old n }
     ensures { NegatedIn (table image.old) n result image.new }
 {
     let cached = image::entry_word(image, n, image::format::NEGATION_WORD);
     if 0 < cached {
-        return Negated::Number(cached - 1);
+        return Some(cached - 1);
     }
     let kind = image::entry_word(image, n, image::format::KIND_WORD);
     if kind < image::format::NEG {
@@ -116,15 +107,11 @@ pub fn negate(image: &mut [u32], n: u32) -> Negated
     }
     let x = image::entry_word(image, n, image::format::X_WORD);
     if kind < image::format::INTER {
-        return Negated::Number(x);
+        return Some(x);
     }
     let y = image::entry_word(image, n, image::format::Y_WORD);
-    let Negated::Number(p) = negate(image, x) else {
-        return Negated::Full;
-    };
-    let Negated::Number(q) = negate(image, y) else {
-        return Negated::Full;
-    };
+    let p = negate(image, x)?;
+    let q = negate(image, y)?;
     let spread = 1
         + image::entry_word(image, p, image::format::SPREAD_WORD)
         + image::entry_word(image, q, image::format::SPREAD_WORD);
@@ -140,22 +127,22 @@ pub fn negate(image: &mut [u32], n: u32) -> Negated
 }
 
 // Makes Neg(n), or leaves every word as found.
-pub fn make_neg(image: &mut [u32], n: u32) -> Made
+pub fn make_neg(image: &mut [u32], n: u32) -> Result<u32, Refusal>
     requires t { T (well_formed image.old) }
     requires n_in_bounds { n < length (entries_of image.old) }
     ensures result_value { told_made result ≡ (made_response image.old (make_neg (entries_of image.old) n)).says }
     ensures image_after { image.new ≡ (made_response image.old (make_neg (entries_of image.old) n)).words }
 {
     let old = image::entries_count(image);
-    let Negated::Number(k) = negate(image, n) else {
+    let Some(k) = negate(image, n) else {
         undo(image, old);
-        return Made::Refused(Refusal::NoRoom(image::format::ENTRIES)); // however deep it would go
+        return Err(Refusal::NoRoom(image::format::ENTRIES)); // however deep it would go
     };
     if image::format::SPREAD_MOST < image::entry_word(image, k, image::format::SPREAD_WORD) {
         undo(image, old);
-        return Made::Refused(Refusal::TooDeep);
+        return Err(Refusal::TooDeep);
     }
-    Made::Number(k)
+    Ok(k)
 }
 
 // Puts the n fields of a list behind the last.
@@ -165,11 +152,9 @@ fn put_fields(image: &mut [u32], fields: &[u32], n: usize)
     requires n_len_bound { length (fields_in image.old) + n ≤ (store_of image.old).capacities.fields }
     ensures { Shows image.new (fields_to image.old (fields_in image.old ++ field_list fields.now)) }
 {
-    let mut i: usize = 0;
-    while i < n {
+    for i in 0..n {
         let at = image::format::FIELD_WIDTH * i;
         writes::push_field(image, fields[at], fields[at + 1], fields[at + 2]);
-        i += 1;
     }
 }
 
@@ -181,22 +166,22 @@ fn first_field(old: u32, count: u32) -> u32
 }
 
 // The dynamic type, or 0.
-fn dynamic_type(dynamic: Dynamic) -> u32
+fn dynamic_type(dynamic: Option<u32>) -> u32
     ensures { result ≡ dynamic_type dynamic }
 {
     match dynamic {
-        Dynamic::Absent => 0,
-        Dynamic::Present(n) => n,
+        None => 0,
+        Some(n) => n,
     }
 }
 
 // The flag that says that there is one.
-fn dynamic_bit(dynamic: Dynamic) -> u32
+fn dynamic_bit(dynamic: Option<u32>) -> u32
     ensures { (result ≡ dynamic_bit dynamic) × (result ≤ 4) }
 {
     match dynamic {
-        Dynamic::Absent => 0,
-        Dynamic::Present(_) => image::format::DYNAMIC_FLAG,
+        None => 0,
+        Some(_) => image::format::DYNAMIC_FLAG,
     }
 }
 
@@ -215,20 +200,20 @@ fn wide(x: u32) -> usize
 }
 
 // Makes an attrset with the fields of a list, triples of a name, an entry and optional.
-pub fn make_attrset(image: &mut [u32], fields: &[u32], is_open: bool, dynamic: Dynamic) -> Made
+pub fn make_attrset(image: &mut [u32], fields: &[u32], is_open: bool, dynamic: Option<u32>) -> Result<u32, Refusal>
     requires { T (well_formed image.old) }
     ensures result_value { told_made result ≡ (attrset_response image.old fields.now is_open dynamic).says }
     ensures image_after { image.new ≡ (attrset_response image.old fields.now is_open dynamic).words }
 {
     let number = image::entries_count(image);
     if image::entries_capacity(image) <= number {
-        return Made::Refused(Refusal::NoRoom(image::format::ENTRIES));
+        return Err(Refusal::NoRoom(image::format::ENTRIES));
     }
     let old = image::fields_count(image);
     let room = image::fields_capacity(image) - old;
     let n = fields.len() / image::format::FIELD_WIDTH;
     if wide(room) < n {
-        return Made::Refused(Refusal::NoRoom(image::format::FIELDS));
+        return Err(Refusal::NoRoom(image::format::FIELDS));
     }
     put_fields(image, fields, n);
     let count = n as u32;
@@ -236,5 +221,5 @@ pub fn make_attrset(image: &mut [u32], fields: &[u32], is_open: bool, dynamic: D
     let typed = dynamic_type(dynamic);
     let flags = open_bit(is_open) + dynamic_bit(dynamic);
     writes::push_entry(image, image::format::ATTRSET, first, count, typed, flags, 1);
-    Made::Number(number)
+    Ok(number)
 }

@@ -21,11 +21,7 @@ pub fn put_row(region: &mut [u32], start: usize, row: &[u32])
     requires { start + length row.now ≤ length region.old }
     ensures { region.new ≡ sets region.old start row.now }
 {
-    let mut i = 0;
-    while i < row.len() {
-        region[start + i] = row[i];
-        i += 1;
-    }
+    region[start..start + row.len()].copy_from_slice(row);
 }
 
 // Puts a record behind the last of a region.

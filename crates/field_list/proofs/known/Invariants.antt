@@ -1,4 +1,4 @@
--- What the loops of `known` keep, and why they end.
+-- What the loops of `known` keep.
 use Prim.Native.Nat.{◌-◌}
 use lib.Dec.{ltb}
 use Rattle.field_list.proofs.Fields.{Tested}
@@ -6,6 +6,3 @@ use Rattle.field_list.proofs.known.Given as goal
 
 abbrev pub invariant-loop-i : goal.invariant-loop-i
 invariant-loop-i l = Tested (λ f. ltb f.entry l.count) l.fields l.ok l.i
-
-abbrev pub decreases-loop-i : goal.decreases-loop-i
-decreases-loop-i l = l.n - l.i

@@ -1,10 +1,7 @@
--- What the loops of `listed` keep, and why they end.
+-- What the loops of `listed` keep.
 use Prim.Native.Nat.{◌-◌}
 use Rattle.field_list.proofs.Fields.{Listed}
 use Rattle.field_list.proofs.listed.Given as goal
 
 abbrev pub invariant-loop-i : goal.invariant-loop-i
 invariant-loop-i l = Listed l.names l.fields l.ok l.least l.i
-
-abbrev pub decreases-loop-i : goal.decreases-loop-i
-decreases-loop-i l = l.n - l.i

@@ -1,4 +1,4 @@
--- What the loops of `bounds_right` keep, and why they end.
+-- What the loops of `bounds_right` keep.
 use Prim.Native.Nat.{◌≤◌, ◌-◌}
 use mathlib.Core.Path.{◌≡◌}
 use mathlib.Core.Bool.{true}
@@ -10,6 +10,3 @@ use Rattle.formed.proofs.bounds_right.Given as goal
 
 abbrev pub invariant-loop-i : goal.invariant-loop-i
 invariant-loop-i l = (l.i ≤ l.n) × (all (bound_right (entries_of l.image)) (take l.i (bounds_all l.image)) ≡ true)
-
-abbrev pub decreases-loop-i : goal.decreases-loop-i
-decreases-loop-i l = l.n - l.i

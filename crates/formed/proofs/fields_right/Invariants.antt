@@ -1,4 +1,4 @@
--- What the loops of `fields_right` keep, and why they end.
+-- What the loops of `fields_right` keep.
 use Prim.Native.Nat.{◌≤◌, ◌-◌}
 use mathlib.Core.Path.{◌≡◌}
 use lib.ListN.{take}
@@ -9,6 +9,3 @@ use Rattle.formed.proofs.fields_right.Given as goal
 
 abbrev pub invariant-loop-i : goal.invariant-loop-i
 invariant-loop-i l = (l.i ≤ l.n) × (l.ok ≡ all (field_right (entries_of l.image)) (take l.i (fields_in l.image)))
-
-abbrev pub decreases-loop-i : goal.decreases-loop-i
-decreases-loop-i l = l.n - l.i

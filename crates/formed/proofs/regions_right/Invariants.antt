@@ -1,4 +1,4 @@
--- What the loops of `regions_right` keep, and why they end.
+-- What the loops of `regions_right` keep.
 use Prim.Native.Nat.{◌≤◌, ◌+◌, ◌*◌, ◌-◌}
 use mathlib.Core.Path.{◌≡◌}
 use Rattle.model.specs.Format.{regions, newest, header_words, entry_width, word_end}
@@ -9,6 +9,3 @@ use Rattle.formed.proofs.regions_right.Given as goal
 
 abbrev pub invariant-loop-k : goal.invariant-loop-k
 invariant-loop-k l = (l.k ≤ regions_many) × (l.at ≤ header_words + entry_width * word_end * l.k) × (tests_from l.image l.k l.at ≡ regions_right (regions newest) 1 header_words l.image)
-
-abbrev pub decreases-loop-k : goal.decreases-loop-k
-decreases-loop-k l = regions_many - l.k

@@ -1,4 +1,4 @@
--- What the loops of `rests_zero` keep, and why they end.
+-- What the loops of `rests_zero` keep.
 use Prim.Native.Nat.{◌-◌, ◌≤◌}
 use mathlib.Core.Path.{◌≡◌}
 use mathlib.Core.Bool.{◌&&◌}
@@ -10,6 +10,3 @@ use Rattle.formed.proofs.rests_zero.Given as goal
 
 abbrev pub invariant-loop-k : goal.invariant-loop-k
 invariant-loop-k l = (l.k ≤ rows_many) × ((l.ok && zeros_from l.image l.k) ≡ rests_zero (rows newest) 1 l.image)
-
-abbrev pub decreases-loop-k : goal.decreases-loop-k
-decreases-loop-k l = rows_many - l.k

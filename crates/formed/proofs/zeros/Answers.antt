@@ -6,11 +6,11 @@ use Rattle.model.specs.Lists.{is_zero, all}
 use Rattle.formed.proofs.Walked.{all_step}
 use Rattle.formed.proofs.zeros.Goals as goal
 
-pub loop-i-init : goal.loop-i-init
+pub loop-w-init : goal.loop-w-init
 unfolding all
-loop-i-init c = (search rules, refl)
+loop-w-init c = (search rules, refl)
 
-pub loop-i-preserved : goal.loop-i-preserved
-loop-i-preserved c =
-    let l = c.loop-i in
-    (omega arith, rw l.invariant.1 (sym (all_step is_zero 0 c.args.part.now l.i c.loop-i-test.true)))
+pub loop-w-preserved : goal.loop-w-preserved
+loop-w-preserved c =
+    let l = c.loop-w in
+    (omega arith, rw l.invariant.1 (sym (all_step is_zero 0 c.args.part.now l.w-index c.loop-w-test.true)))

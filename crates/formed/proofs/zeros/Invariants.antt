@@ -5,8 +5,5 @@ use lib.ListN.{length, take}
 use Rattle.model.specs.Lists.{is_zero, all}
 use Rattle.formed.proofs.zeros.Given as goal
 
-abbrev pub invariant-loop-i : goal.invariant-loop-i
-invariant-loop-i l = (l.i ≤ length l.part) × (l.ok ≡ all is_zero (take l.i l.part))
-
-abbrev pub decreases-loop-i : goal.decreases-loop-i
-decreases-loop-i l = length l.part - l.i
+abbrev pub invariant-loop-w : goal.invariant-loop-w
+invariant-loop-w l = (l.w-index ≤ length l.part) × (l.ok ≡ all is_zero (take l.w-index l.part))

@@ -1,4 +1,4 @@
--- What the loops of `has_pair` keep, and why they end.
+-- What the loops of `has_pair` keep.
 use Rattle.model.specs.Rules.{same_pair}
 use Rattle.model.specs.Image.{visited_of}
 use Rattle.model.specs.Table.{◌⊑◌}
@@ -11,6 +11,3 @@ use Rattle.image.proofs.has_pair.Given as goal
 
 abbrev pub invariant-loop-i : goal.invariant-loop-i
 invariant-loop-i l = (l.i ≤ l.n) × (any (same_pair (l.a ⊑ l.b)) (read_many visited_of (drop 2) l.i l.region) ≡ false)
-
-abbrev pub decreases-loop-i : goal.decreases-loop-i
-decreases-loop-i l = l.n - l.i

@@ -1,4 +1,4 @@
--- What the loops of `all_small` keep, and why they end.
+-- What the loops of `all_small` keep.
 use Prim.Native.Nat.{◌-◌, ◌≤◌}
 use mathlib.Core.Path.{◌≡◌}
 use mathlib.Core.Bool.{◌&&◌}
@@ -10,6 +10,3 @@ use Rattle.start.proofs.all_small.Given as goal
 
 abbrev pub invariant-loop-k : goal.invariant-loop-k
 invariant-loop-k l = (l.k ≤ regions_many) × ((l.ok && small_from l.k l.sizes) ≡ all_small (regions newest) l.sizes)
-
-abbrev pub decreases-loop-k : goal.decreases-loop-k
-decreases-loop-k l = regions_many - l.k

@@ -1,4 +1,4 @@
--- What the loops of `size_of` keep, and why they end.
+-- What the loops of `size_of` keep.
 use Prim.Native.Nat.{◌+◌, ◌-◌, ◌≤◌}
 use mathlib.Core.Path.{◌≡◌}
 use Rattle.image.proofs.Listed.{regions_many}
@@ -7,6 +7,3 @@ use Rattle.start.proofs.size_of.Given as goal
 
 abbrev pub invariant-loop-k : goal.invariant-loop-k
 invariant-loop-k l = (l.k ≤ regions_many) × (l.at + size_from l.k l.sizes ≡ size_all l.sizes)
-
-abbrev pub decreases-loop-k : goal.decreases-loop-k
-decreases-loop-k l = regions_many - l.k

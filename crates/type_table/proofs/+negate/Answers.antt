@@ -34,63 +34,63 @@ negate-requires t c =
     let q = pre_one _ _ _ _ _ s in
     (omega (arith, q.0, c.decreases), q.1)
 
-pub returns-in_default : goal.returns-in_default
-returns-in_default t c =
+pub returns-in_err-p : goal.returns-in_err-p
+returns-in_err-p t c =
     let s = parts _ _ _ _ _ _ c.requires c.entry_word-cached.ensures c.if-cached-gt0.false c.entry_word-kind.ensures c.if-kind-lt-INTER.false c.entry_word-x.ensures c.entry_word-y.ensures in
-    fail_one _ _ _ _ _ s _ _ c.negate.ensures c.in_default.is
+    rw c.from_residual.ensures (fail_one _ _ _ _ _ s _ _ c.negate.ensures c.in_err-p.was)
 
 pub negate-requires-2 : goal.negate-requires-2
 negate-requires-2 t c =
     let s = parts _ _ _ _ _ _ c.requires c.entry_word-cached.ensures c.if-cached-gt0.false c.entry_word-kind.ensures c.if-kind-lt-INTER.false c.entry_word-x.ensures c.entry_word-y.ensures in
-    let f = done_one _ _ _ _ _ s _ _ _ c.negate.ensures c.in-Number.is in
+    let f = done_one _ _ _ _ _ s _ _ _ c.negate.ensures c.in_ok-p.was in
     (omega (arith, f.falls, c.decreases), f.pre)
 
-pub returns-in_default-negate : goal.returns-in_default-negate
-returns-in_default-negate t c =
+pub returns-in_err-q : goal.returns-in_err-q
+returns-in_err-q t c =
     let s = parts _ _ _ _ _ _ c.requires c.entry_word-cached.ensures c.if-cached-gt0.false c.entry_word-kind.ensures c.if-kind-lt-INTER.false c.entry_word-x.ensures c.entry_word-y.ensures in
-    let f = done_one _ _ _ _ _ s _ _ _ c.negate.ensures c.in-Number.is in
-    fail_two _ _ _ _ _ s _ _ f _ _ c.negate-2.ensures c.in_default-negate.is
+    let f = done_one _ _ _ _ _ s _ _ _ c.negate.ensures c.in_ok-p.was in
+    rw c.from_residual-in_err-q.ensures (fail_two _ _ _ _ _ s _ _ f _ _ c.negate-2.ensures c.in_err-q.was)
 
 pub entry_word-requires-clause-laid : goal.entry_word-requires-clause-laid
 entry_word-requires-clause-laid t c =
     let s = parts _ _ _ _ _ _ c.requires c.entry_word-cached.ensures c.if-cached-gt0.false c.entry_word-kind.ensures c.if-kind-lt-INTER.false c.entry_word-x.ensures c.entry_word-y.ensures in
-    let f = done_one _ _ _ _ _ s _ _ _ c.negate.ensures c.in-Number.is in
-    let g = done_two _ _ _ _ _ s _ _ f _ _ _ c.negate-2.ensures c.in-Number-negate.is in
+    let f = done_one _ _ _ _ _ s _ _ _ c.negate.ensures c.in_ok-p.was in
+    let g = done_two _ _ _ _ _ s _ _ f _ _ _ c.negate-2.ensures c.in_ok-q.was in
     shown_laid g.self
 
 pub entry_word-requires-clause-i_in_bounds : goal.entry_word-requires-clause-i_in_bounds
 entry_word-requires-clause-i_in_bounds t c =
     let s = parts _ _ _ _ _ _ c.requires c.entry_word-cached.ensures c.if-cached-gt0.false c.entry_word-kind.ensures c.if-kind-lt-INTER.false c.entry_word-x.ensures c.entry_word-y.ensures in
-    let f = done_one _ _ _ _ _ s _ _ _ c.negate.ensures c.in-Number.is in
-    let g = done_two _ _ _ _ _ s _ _ f _ _ _ c.negate-2.ensures c.in-Number-negate.is in
+    let f = done_one _ _ _ _ _ s _ _ _ c.negate.ensures c.in_ok-p.was in
+    let g = done_two _ _ _ _ _ s _ _ f _ _ _ c.negate-2.ensures c.in_ok-q.was in
     g.in_p
 
 pub overflow_add-spread-2 : goal.overflow_add-spread-2
 overflow_add-spread-2 t c =
     let s = parts _ _ _ _ _ _ c.requires c.entry_word-cached.ensures c.if-cached-gt0.false c.entry_word-kind.ensures c.if-kind-lt-INTER.false c.entry_word-x.ensures c.entry_word-y.ensures in
-    let f = done_one _ _ _ _ _ s _ _ _ c.negate.ensures c.in-Number.is in
-    let g = done_two _ _ _ _ _ s _ _ f _ _ _ c.negate-2.ensures c.in-Number-negate.is in
+    let f = done_one _ _ _ _ _ s _ _ _ c.negate.ensures c.in_ok-p.was in
+    let g = done_two _ _ _ _ _ s _ _ f _ _ _ c.negate-2.ensures c.in_ok-q.was in
     omega (arith, c.entry_word.ensures, g.low_p)
 
 pub entry_word-requires-2-clause-laid : goal.entry_word-requires-2-clause-laid
 entry_word-requires-2-clause-laid t c =
     let s = parts _ _ _ _ _ _ c.requires c.entry_word-cached.ensures c.if-cached-gt0.false c.entry_word-kind.ensures c.if-kind-lt-INTER.false c.entry_word-x.ensures c.entry_word-y.ensures in
-    let f = done_one _ _ _ _ _ s _ _ _ c.negate.ensures c.in-Number.is in
-    let g = done_two _ _ _ _ _ s _ _ f _ _ _ c.negate-2.ensures c.in-Number-negate.is in
+    let f = done_one _ _ _ _ _ s _ _ _ c.negate.ensures c.in_ok-p.was in
+    let g = done_two _ _ _ _ _ s _ _ f _ _ _ c.negate-2.ensures c.in_ok-q.was in
     shown_laid g.self
 
 pub entry_word-requires-2-clause-i_in_bounds : goal.entry_word-requires-2-clause-i_in_bounds
 entry_word-requires-2-clause-i_in_bounds t c =
     let s = parts _ _ _ _ _ _ c.requires c.entry_word-cached.ensures c.if-cached-gt0.false c.entry_word-kind.ensures c.if-kind-lt-INTER.false c.entry_word-x.ensures c.entry_word-y.ensures in
-    let f = done_one _ _ _ _ _ s _ _ _ c.negate.ensures c.in-Number.is in
-    let g = done_two _ _ _ _ _ s _ _ f _ _ _ c.negate-2.ensures c.in-Number-negate.is in
+    let f = done_one _ _ _ _ _ s _ _ _ c.negate.ensures c.in_ok-p.was in
+    let g = done_two _ _ _ _ _ s _ _ f _ _ _ c.negate-2.ensures c.in_ok-q.was in
     g.in_q
 
 pub overflow_add-spread-3 : goal.overflow_add-spread-3
 overflow_add-spread-3 t c =
     let s = parts _ _ _ _ _ _ c.requires c.entry_word-cached.ensures c.if-cached-gt0.false c.entry_word-kind.ensures c.if-kind-lt-INTER.false c.entry_word-x.ensures c.entry_word-y.ensures in
-    let f = done_one _ _ _ _ _ s _ _ _ c.negate.ensures c.in-Number.is in
-    let g = done_two _ _ _ _ _ s _ _ f _ _ _ c.negate-2.ensures c.in-Number-negate.is in
+    let f = done_one _ _ _ _ _ s _ _ _ c.negate.ensures c.in_ok-p.was in
+    let g = done_two _ _ _ _ _ s _ _ f _ _ _ c.negate-2.ensures c.in_ok-q.was in
     omega (arith, c.entry_word.ensures, c.entry_word-2.ensures, g.low_p, g.low_q)
 
 pub overflow_sub-kind : goal.overflow_sub-kind
@@ -101,20 +101,20 @@ overflow_sub-kind t c =
 pub add-requires-2-clause-shown : goal.add-requires-2-clause-shown
 add-requires-2-clause-shown t c =
     let s = parts _ _ _ _ _ _ c.requires c.entry_word-cached.ensures c.if-cached-gt0.false c.entry_word-kind.ensures c.if-kind-lt-INTER.false c.entry_word-x.ensures c.entry_word-y.ensures in
-    let f = done_one _ _ _ _ _ s _ _ _ c.negate.ensures c.in-Number.is in
-    let g = done_two _ _ _ _ _ s _ _ f _ _ _ c.negate-2.ensures c.in-Number-negate.is in
+    let f = done_one _ _ _ _ _ s _ _ _ c.negate.ensures c.in_ok-p.was in
+    let g = done_two _ _ _ _ _ s _ _ f _ _ _ c.negate-2.ensures c.in_ok-q.was in
     g.self
 
 pub add-requires-2-clause-n_in_bounds : goal.add-requires-2-clause-n_in_bounds
 add-requires-2-clause-n_in_bounds t c =
     let s = parts _ _ _ _ _ _ c.requires c.entry_word-cached.ensures c.if-cached-gt0.false c.entry_word-kind.ensures c.if-kind-lt-INTER.false c.entry_word-x.ensures c.entry_word-y.ensures in
-    let f = done_one _ _ _ _ _ s _ _ _ c.negate.ensures c.in-Number.is in
-    let g = done_two _ _ _ _ _ s _ _ f _ _ _ c.negate-2.ensures c.in-Number-negate.is in
+    let f = done_one _ _ _ _ _ s _ _ _ c.negate.ensures c.in_ok-p.was in
+    let g = done_two _ _ _ _ _ s _ _ f _ _ _ c.negate-2.ensures c.in_ok-q.was in
     g.in_n
 
 pub returns : goal.returns
 returns t c =
     let s = parts _ _ _ _ _ _ c.requires c.entry_word-cached.ensures c.if-cached-gt0.false c.entry_word-kind.ensures c.if-kind-lt-INTER.false c.entry_word-x.ensures c.entry_word-y.ensures in
-    let f = done_one _ _ _ _ _ s _ _ _ c.negate.ensures c.in-Number.is in
-    let g = done_two _ _ _ _ _ s _ _ f _ _ _ c.negate-2.ensures c.in-Number-negate.is in
+    let f = done_one _ _ _ _ _ s _ _ _ c.negate.ensures c.in_ok-p.was in
+    let g = done_two _ _ _ _ _ s _ _ f _ _ _ c.negate-2.ensures c.in_ok-q.was in
     done_both _ _ _ _ _ s _ _ _ g _ _ _ _ c.entry_word.ensures c.entry_word-2.ensures c.add-2.ensures

@@ -4,10 +4,10 @@ use mathlib.Core.Path.{refl}
 use Rattle.model.specs.Calls.{dynamic_bit}
 use Rattle.type_table.proofs.dynamic_bit.Goals as goal
 
-pub returns-in-Absent : goal.returns-in-Absent
+pub returns-in-None : goal.returns-in-None
 unfolding dynamic_bit
-returns-in-Absent c = rw c.in-Absent.is (refl, omega arith)
+returns-in-None c = rw c.in-None.is (refl, omega arith)
 
-pub returns-in-Present : goal.returns-in-Present
+pub returns-in-Some : goal.returns-in-Some
 unfolding dynamic_bit
-returns-in-Present c = rw c.in-Present.is (refl, omega arith)
+returns-in-Some c = rw c.in-Some.is (refl, omega arith)

@@ -2,10 +2,10 @@
 use Rattle.model.specs.Calls.{dynamic_type}
 use Rattle.type_table.proofs.dynamic_type.Goals as goal
 
-pub returns-in-Absent : goal.returns-in-Absent
+pub returns-in-None : goal.returns-in-None
 unfolding dynamic_type
-returns-in-Absent c = rw c.in-Absent.is
+returns-in-None c = rw c.in-None.is
 
-pub returns-in-Present : goal.returns-in-Present
+pub returns-in-Some : goal.returns-in-Some
 unfolding dynamic_type
-returns-in-Present c = rw c.in-Present.is
+returns-in-Some c = rw c.in-Some.is

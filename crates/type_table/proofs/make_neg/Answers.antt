@@ -22,25 +22,25 @@ returns-in_default c =
 
 pub entry_word-requires-clause-laid : goal.entry_word-requires-clause-laid
 entry_word-requires-clause-laid c =
-    let r = made_part _ _ c.requires.t c.requires.n_in_bounds _ c.entries_count-old.ensures _ _ c.negate.ensures _ c.in-Number.is in
+    let r = made_part _ _ c.requires.t c.requires.n_in_bounds _ c.entries_count-old.ensures _ _ c.negate.ensures _ c.in-Some.is in
     shown_laid r.0
 
 pub entry_word-requires-clause-i_in_bounds : goal.entry_word-requires-clause-i_in_bounds
 entry_word-requires-clause-i_in_bounds c =
-    let r = made_part _ _ c.requires.t c.requires.n_in_bounds _ c.entries_count-old.ensures _ _ c.negate.ensures _ c.in-Number.is in
+    let r = made_part _ _ c.requires.t c.requires.n_in_bounds _ c.entries_count-old.ensures _ _ c.negate.ensures _ c.in-Some.is in
     r.1
 
 pub undo-requires-then-entry_word-gt-SPREAD_MOST : goal.undo-requires-then-entry_word-gt-SPREAD_MOST
 undo-requires-then-entry_word-gt-SPREAD_MOST c =
-    let r = made_undo _ _ c.requires.t c.requires.n_in_bounds _ c.entries_count-old.ensures _ _ c.negate.ensures _ c.in-Number.is in
+    let r = made_undo _ _ c.requires.t c.requires.n_in_bounds _ c.entries_count-old.ensures _ _ c.negate.ensures _ c.in-Some.is in
     record { shown = r.0; in_bounds = r.1 }
 
 pub returns-then-entry_word-gt-SPREAD_MOST : goal.returns-then-entry_word-gt-SPREAD_MOST
 returns-then-entry_word-gt-SPREAD_MOST c =
-    let r = deep_told _ _ c.requires.t c.requires.n_in_bounds _ c.entries_count-old.ensures _ _ c.negate.ensures _ c.in-Number.is (omega (arith, c.entry_word.ensures, c.if-entry_word-gt-SPREAD_MOST.true)) _ c.undo-then-entry_word-gt-SPREAD_MOST.ensures in
+    let r = deep_told _ _ c.requires.t c.requires.n_in_bounds _ c.entries_count-old.ensures _ _ c.negate.ensures _ c.in-Some.is (omega (arith, c.entry_word.ensures, c.if-entry_word-gt-SPREAD_MOST.true)) _ c.undo-then-entry_word-gt-SPREAD_MOST.ensures in
     record { result_value = r.0; image_after = r.1 }
 
 pub returns : goal.returns
 returns c =
-    let r = made_told _ _ c.requires.t c.requires.n_in_bounds _ c.entries_count-old.ensures _ _ c.negate.ensures _ c.in-Number.is (omega (arith, c.entry_word.ensures, c.if-entry_word-gt-SPREAD_MOST.false)) in
+    let r = made_told _ _ c.requires.t c.requires.n_in_bounds _ c.entries_count-old.ensures _ _ c.negate.ensures _ c.in-Some.is (omega (arith, c.entry_word.ensures, c.if-entry_word-gt-SPREAD_MOST.false)) in
     record { result_value = r.0; image_after = r.1 }

@@ -1,10 +1,7 @@
--- What the loops of `put_fields` keep, and why they end.
+-- What the loops of `put_fields` keep.
 use Prim.Native.Nat.{◌-◌}
 use Rattle.type_table.proofs.Attrsets.{Fielded}
 use Rattle.type_table.proofs.put_fields.Given as goal
 
 abbrev pub invariant-loop-i : goal.invariant-loop-i
 invariant-loop-i l = Fielded l.initial.image l.fields l.i l.image
-
-abbrev pub decreases-loop-i : goal.decreases-loop-i
-decreases-loop-i l = l.n - l.i

@@ -1,4 +1,4 @@
--- What the loops of `undo` keep, and why they end.
+-- What the loops of `undo` keep.
 use Prim.Native.Nat.{◌-◌}
 use Rattle.model.specs.Image.{table}
 use Rattle.type_table.proofs.Undoing.{Put}
@@ -6,6 +6,3 @@ use Rattle.type_table.proofs.undo.Given as goal
 
 abbrev pub invariant-loop-i : goal.invariant-loop-i
 invariant-loop-i l = Put (table l.initial.image) l.old l.i l.image
-
-abbrev pub decreases-loop-i : goal.decreases-loop-i
-decreases-loop-i l = l.old - l.i

@@ -1,4 +1,4 @@
--- What the loops of `entries_right` keep, and why they end.
+-- What the loops of `entries_right` keep.
 use Prim.Native.Nat.{◌≤◌, ◌-◌}
 use mathlib.Core.Path.{◌≡◌}
 use lib.ListN.{take}
@@ -9,6 +9,3 @@ use Rattle.formed.proofs.entries.entries_right.Given as goal
 
 abbrev pub invariant-loop-i : goal.invariant-loop-i
 invariant-loop-i l = (l.i ≤ l.n) × (l.ok ≡ all_from (entry_right_in l.image) 0 (take l.i (entries_of l.image)))
-
-abbrev pub decreases-loop-i : goal.decreases-loop-i
-decreases-loop-i l = l.n - l.i
