@@ -1,11 +1,11 @@
 -- The contract of each call for C that may change an image is that it meets the model's call, told in the answer's words. So the three
 -- demands, which crate `demands` has over whatever meets a call, hold of the calls for C; below they are said in the answer's words.
 -- `Post` is the contract; `a.0.now` is the image at entry, `x` the answer, `e.0.now` the image at exit. Assumes nothing.
+use Rattle.std.specs.Prelude.{None, Some}
 use Prim.Native.Nat.{ℕ, ◌+◌}
 use native.Mathlib.Omega.{arith}
 use mathlib.Core.Path.{◌≡◌, refl, sym, ap, ◌∙◌, subst}
 use mathlib.Core.List.{List, ◌∷◌}
-use mathlib.Core.Option.{none, some}
 use mathlib.Core.Bool.{true, false, not}
 use lib.Dec.{T}
 use denote.MutBor.{MutBor}
@@ -218,15 +218,15 @@ c_open_refused q m k = let r = c_refused m k in (r.0, r.1, opening_by_step q r.0
 -- Demand 2: a held question, where none is asked, in a table started by us: refused with 8 exactly when an earlier question has failed,
 -- with the first failure; with none it is the plain question.
 module _ {v w : List ℕ} {x : Answer} {b : ℕ} (o : Ours v) (q : Question) (held : q.held ≡ true) (idle : T (not (is_asked (table v)))) (m : CallMet (opens q b) v x w) where
-  pub c_held_carries_first : (f : Failure) → first_told o ≡ some f → (x ≡ answer_of 0 (told_unopened (broken_by (break_of f)))) × (w ≡ v)
+  pub c_held_carries_first : (f : Failure) → first_told o ≡ Some f → (x ≡ answer_of 0 (told_unopened (broken_by (break_of f)))) × (w ≡ v)
   c_held_carries_first f e =
       let k = demand-2.held_carries_first o q held idle m.meets f e in
       (m.shows ∙ ap (answer_of x.steps) k.0 ∙ ap (λ (n : ℕ). answer_of n (told_unopened (broken_by (break_of f)))) k.1, k.2)
 
-  pub c_held_none_failed : first_told o ≡ none → CallMet (opens (plain q) b) v x w
+  pub c_held_none_failed : first_told o ≡ None → CallMet (opens (plain q) b) v x w
   c_held_none_failed e = record { told = m.told; shows = m.shows; meets = demand-2.held_none_failed o q held idle m.meets e }
 
-  pub c_held_refused_failed : (k a s n : ℕ) → x ≡ answer_of x.steps (told_unopened (Broken k a s n)) → (f : Failure) × (first_told o ≡ some f)
+  pub c_held_refused_failed : (k a s n : ℕ) → x ≡ answer_of x.steps (told_unopened (Broken k a s n)) → (f : Failure) × (first_told o ≡ Some f)
   c_held_refused_failed k a s n e =
       let r = c_unopened m (ap (λ (y : Answer). y.kind) e) in
       let d = told_once x.steps x.steps (told_unopened r.0) (told_unopened (Broken k a s n)) (unopened_in_struct r.0) (unopened_in_struct (Broken k a s n)) (sym r.1 ∙ e) in

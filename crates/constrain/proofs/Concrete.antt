@@ -1,8 +1,8 @@
 -- Two concrete entries, once the arm is decided: the components are entries, and the rule is the arm's. Assumes nothing.
+use Rattle.std.specs.Prelude.{None, Option, Some}
 use Prim.Native.Nat.{ℕ, ◌≤◌, ◌<◌}
 use native.Mathlib.Omega.{arith}
 use mathlib.Core.Path.{◌≡◌, refl, sym}
-use mathlib.Core.Option.{Option, none, some}
 use mathlib.Core.Bool.{false, cond, ◌&&◌}
 use lib.ListN.{length}
 use borrow.Author.Tests.{eqb-false}
@@ -47,8 +47,8 @@ module _ (s : Store) (good : Good s) (n : ℕ) (lt : n < length s.entries) (v : 
 -- of the lambda, the functor's rule reads only its components
 lambda_same : (g : Graph) (sub : ℕ) (b : Entry) (o : Option Field) → functor_rule g sub (lambda_of b.x b.y) o ≡ functor_rule g sub b o
 unfolding functor_rule
-lambda_same g sub b none = refl
-lambda_same g sub b (some f) = refl
+lambda_same g sub b None = refl
+lambda_same g sub b (Some f) = refl
 
 -- what is known of sub and sup, their words v and w, and the arm
 pub record Decided (s : Store) (sub sup : ℕ) (v w : Words) (arm : Arm) : Type 0 where

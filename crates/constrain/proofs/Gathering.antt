@@ -1,10 +1,9 @@
 -- What sup's fields ask, one after the other, and that the two passes are the model's attrset rule. Assumes nothing.
-use Rattle.std.specs.Prelude.{None, Some}
+use Rattle.std.specs.Prelude.{None, Some, Option}
 use Prim.Native.Nat.{ℕ, suc, ◌+◌, ◌≤◌, ◌<◌}
 use native.Mathlib.Omega.{arith}
 use mathlib.Core.Path.{◌≡◌, refl, sym, ap, ◌∙◌}
 use mathlib.Core.List.{List, [], ◌∷◌, ◌++◌}
-use mathlib.Core.Option.{Option, none, some}
 use mathlib.Core.Bool.{Bool, true, false, not, cond, ◌&&◌}
 use lib.ListN.{length, length-append}
 use types.Run.{OneOf, miss}
@@ -118,14 +117,14 @@ module _ {fs : List Field} {a b : Attrset} {e j n : ℕ} (g : Going fs a b e j n
     pub going_missing : ask_of a (fields_held fs a) (field_at fs j) ≡ A.Missing → N.Missing (field_at fs j).name ≡ gathered_in fs a b
     unfolding gathered_in
     going_missing q =
-        let p : first_missing a (fields_held fs a) (fields_held fs b) ≡ some (field_at fs j).name = g.first ∙ first_next fs a j e h g.there ∙ rw q in
+        let p : first_missing a (fields_held fs a) (fields_held fs b) ≡ Some (field_at fs j).name = g.first ∙ first_next fs a j e h g.there ∙ rw q in
         rw p
 
   pub going_end : {m : ℕ} → e ≤ j → m ≡ n + both_dynamic a.dynamic b.dynamic → N.Follow (Fields a b m) ≡ gathered_in fs a b
   unfolding gathered_in first_missing pairs_asked field_pairs
   going_end {m} h q =
       let l : rest fs j e ≡ [] = none_left fs j e h in
-      let p : first_missing a (fields_held fs a) (fields_held fs b) ≡ none = g.first ∙ rw l in
+      let p : first_missing a (fields_held fs a) (fields_held fs b) ≡ None = g.first ∙ rw l in
       let k : length (pairs_asked a (fields_held fs a) (fields_held fs b)) ≡ n + 0 = g.count ∙ rw l in
       let c : m ≡ length (field_pairs fs a b) = omega (arith, length-append (pairs_asked a (fields_held fs a) (fields_held fs b)) (dynamic_pairs a.dynamic b.dynamic)) in
       rw (p, c)
@@ -148,18 +147,18 @@ module _ (f : Field) (g : Gathered) where
 
   one : (e : Entry) (o : Option Field) → gather_one e f o g ≡ by_ask (ask_by (attrset_of e) f o) f g
   unfolding gather_one dynamic_of
-  one e (some h) = refl
-  one e none = one_by (has_dynamic e) (is_open e) e.z
+  one e (Some h) = refl
+  one e None = one_by (has_dynamic e) (is_open e) e.z
 
 -- a missing field, or the pairs
 abbrev told : Option ℕ → List Pair → Gathered
-told (some n) ps = lacking n
-told none ps = gathered ps
+told (Some n) ps = lacking n
+told None ps = gathered ps
 
 told_by : (w : FieldAsk) (f : Field) (m : Option ℕ) (qs last : List Pair) → by_ask w f (told m (qs ++ last)) ≡ told (missing_or w f m) (add_asked w f qs ++ last)
 unfolding before
-told_by (A.Under x) f none qs last = refl
-told_by (A.Under x) f (some n) qs last = refl
+told_by (A.Under x) f None qs last = refl
+told_by (A.Under x) f (Some n) qs last = refl
 told_by A.Nothing f m qs last = refl
 told_by A.Missing f m qs last = refl
 
@@ -183,8 +182,8 @@ dynamics_told d e = dynamics_by (has_dynamic d) (has_dynamic e) d.z e.z
 
 effect_told : (g : Graph) (p : Pair) (a b : Attrset) (m : Option ℕ) → effect_of g p (gathered_by g.fields a b m) ≡ gathered_effect g (told m (field_pairs g.fields a b))
 unfolding gathered_effect
-effect_told g p a b none = refl
-effect_told g p a b (some n) = refl
+effect_told g p a b None = refl
+effect_told g p a b (Some n) = refl
 
 -- the attrset rule
 attrsets_told : (g : Graph) (p : Pair) (d e : Entry) → effect_of g p (gathered_in g.fields (attrset_of d) (attrset_of e)) ≡ attrsets g d e
@@ -198,8 +197,8 @@ attrsets_told g p d e =
     effect_told g p a b m ∙ sym (ap (gathered_effect g) q)
 
 applicable : (g : Graph) (a b : Attrset) (m : Option ℕ) → Inside g.fields a → Inside g.fields b → Applicable g (gathered_by g.fields a b m)
-applicable g a b none h k = (h, k, refl)
-applicable g a b (some n) h k = tt
+applicable g a b None h k = (h, k, refl)
+applicable g a b (Some n) h k = tt
 
 -- an entry that reads out as an attrset, or not
 abbrev AsAttrset : Entry → EntryOut → Type 0

@@ -1,6 +1,5 @@
 -- The attrset rule in two passes: what each of sup's fields asks, the first that is missing, and the pairs. Assumes nothing.
-use Rattle.std.specs.Prelude.{ℕ, List, [], ◌∷◌, ◌++◌, Bool, not, cond, ◌&&◌, length, None, Some}
-use Rattle.std.proofs.Math.Option.{Option, none, some}
+use Rattle.std.specs.Prelude.{ℕ, List, [], ◌∷◌, ◌++◌, Bool, not, cond, ◌&&◌, length, None, Some, Option}
 use Rattle.model.specs.Lists.{is_zero}
 use Rattle.model.specs.Table.{Field, Pair, ◌⊑◌}
 use Rattle.model.specs.Shapes.{field_named}
@@ -18,8 +17,8 @@ ask_dynamic (Some n) is_open f = A.Under n
 ask_dynamic None is_open f = cond (not is_open && is_zero f.optional) A.Missing A.Nothing
 
 abbrev pub ask_by : Attrset → Field → Option Field → FieldAsk
-ask_by a f (some g) = A.Under g.entry
-ask_by a f none = ask_dynamic a.dynamic a.is_open f
+ask_by a f (Some g) = A.Under g.entry
+ask_by a f None = ask_dynamic a.dynamic a.is_open f
 
 unfoldable pub ask_of : Attrset → List Field → Field → FieldAsk
 ask_of a have f = ask_by a f (field_named have f.name)
@@ -50,15 +49,15 @@ field_pairs fs a b = pairs_asked a (fields_held fs a) (fields_held fs b) ++ dyna
 abbrev pub missing_or : FieldAsk → Field → Option ℕ → Option ℕ
 missing_or (A.Under x) f rest = rest
 missing_or A.Nothing f rest = rest
-missing_or A.Missing f rest = some f.name
+missing_or A.Missing f rest = Some f.name
 
 unfoldable pub first_missing : Attrset → List Field → List Field → Option ℕ
-first_missing a have [] = none
+first_missing a have [] = None
 first_missing a have (f ∷ fs) = missing_or (ask_of a have f) f (first_missing a have fs)
 
 abbrev pub gathered_by : List Field → Attrset → Attrset → Option ℕ → Next
-gathered_by fs a b (some name) = Missing name
-gathered_by fs a b none = Follow (Fields a b (length (field_pairs fs a b)))
+gathered_by fs a b (Some name) = Missing name
+gathered_by fs a b None = Follow (Fields a b (length (field_pairs fs a b)))
 
 unfoldable pub gathered_in : List Field → Attrset → Attrset → Next
 gathered_in fs a b = gathered_by fs a b (first_missing a (fields_held fs a) (fields_held fs b))

@@ -142,7 +142,7 @@ fn gather(image: &[u32], a: Attrset, b: Attrset) -> Next
     requires inside_2 { Inside (fields_in image.now) b }
     ensures { result ≡ gathered_in (fields_in image.now) a b }
 {
-    let end = j + b.count;
+    let end = b.first + b.count;
     let mut n: u32 = 0;
     for j in b.first..end {
         let ask = asks(image, a, j);

@@ -1,11 +1,11 @@
 -- Demand 2: "Plain questions give the answer, entries, bounds and visited pairs that the Rust gives: proved against the rules of document
 -- 01." What a question comes to, however it is worked; what a failure leaves; and when a held question is refused: of any image that is
 -- well formed, and of the tables started by us. Over any outcomes that the calls' contracts allow. Assumes nothing.
+use Rattle.std.specs.Prelude.{None, Some}
 use Prim.Native.Nat.{ℕ, ◌<◌}
 use native.Mathlib.Omega.{arith}
 use mathlib.Core.Path.{◌≡◌, refl, sym, ap, ◌∙◌, subst}
 use mathlib.Core.List.{List, [], reverse}
-use mathlib.Core.Option.{none, some}
 use mathlib.Core.Bool.{true, false, not}
 use mathlib.Core.Logic.{◌↔◌}
 use lib.Dec.{T}
@@ -101,16 +101,16 @@ ours_later o (later c fits m l) = subst Ours (sym m.leaves) (called c fits (ours
 -- A held question there, where none is asked: refused with 8 exactly when an earlier question has failed, and with the first failure;
 -- with none, it is the plain question.
 module _ {b n : ℕ} {v w : List ℕ} {a : Told} (o : Ours v) (q : Question) (held : q.held ≡ true) (idle : T (not (is_asked (table v)))) (m : Meets (opens q b) v a n w) where
-  pub held_carries_first : (f : Failure) → first_told o ≡ some f → (a ≡ told_unopened (broken_by (break_of f))) × (n ≡ 0) × (w ≡ v)
+  pub held_carries_first : (f : Failure) → first_told o ≡ Some f → (a ≡ told_unopened (broken_by (break_of f))) × (n ≡ 0) × (w ≡ v)
   held_carries_first f e =
       let k = m.tells ∙ ours.held_carries_first o q b held idle f e in
       let h = opening_leaves_all q (broken_by (break_of f)) (subst (λ (x : Told). Meets (opens q b) v x n w) k m) in
       (k, h.1, h.0)
 
-  pub held_none_failed : first_told o ≡ none → Meets (opens (plain q) b) v a n w
+  pub held_none_failed : first_told o ≡ None → Meets (opens (plain q) b) v a n w
   held_none_failed e =
       let k = ours.held_none_failed o q b held idle e in
       record { tells = m.tells ∙ ap (λ r. r.says) k; counts = m.counts ∙ ap (λ r. r.steps) k; leaves = m.leaves ∙ ap (λ r. r.words) k }
 
-  pub held_refused_failed : (k x y z : ℕ) → a ≡ told_unopened (R.Broken k x y z) → (f : Failure) × (first_told o ≡ some f)
+  pub held_refused_failed : (k x y z : ℕ) → a ≡ told_unopened (R.Broken k x y z) → (f : Failure) × (first_told o ≡ Some f)
   held_refused_failed k x y z e = ours.held_refused_failed o q b held idle k x y z (sym m.tells ∙ e)

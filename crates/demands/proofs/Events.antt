@@ -1,7 +1,7 @@
 -- What each event of a history does to the break words: over every history they are those of the first failure. Assumes nothing.
+use Rattle.std.specs.Prelude.{None, Option, Some}
 use mathlib.Core.Path.{◌≡◌, sym, ap, ◌∙◌, subst}
 use mathlib.Core.List.{List, []}
-use mathlib.Core.Option.{Option, none, some}
 use mathlib.Core.Bool.{not}
 use lib.Dec.{eqb}
 use Rattle.histories.specs.Histories.{Event, opens, steps, breaks, quits, changes, History, begun, next, first_of, failure_of, first_failure}
@@ -19,16 +19,16 @@ use Rattle.laws.proofs.Breaks.{goes_break, fails_break, break_kind}
 use Rattle.demands.specs.Started.{Changed, model_calls, StorePast, break_by}
 
 -- a failure's break is one, so that a later failure does not fill it
-after_first : (o : Option Failure) (g : Failure) (s : Store) → s.broken ≡ break_by o → break_after g s ≡ break_by (first_of o (some g))
+after_first : (o : Option Failure) (g : Failure) (s : Store) → s.broken ≡ break_by o → break_after g s ≡ break_by (first_of o (Some g))
 unfolding is_broken break_by first_of
-after_first none g s e = rw e
-after_first (some f) g s e = rw (e, true_of (not (eqb (break_of f).kind unbroken)) (break_kind f))
+after_first None g s e = rw e
+after_first (Some f) g s e = rw (e, true_of (not (eqb (break_of f).kind unbroken)) (break_kind f))
 
 -- a call that finds a table idle and leaves it so
 pub changed_spares : (s u : Store) → Changed s u → Spares (table_of s []) (table_of u [])
 changed_spares s u h = (subst (λ (turn : Turn). Plainly (table_of s []) turn) h.leaves (plainly h.call h.plain h.words (table_of s []))).2
 
-kept : (o : Option Failure) → break_by o ≡ break_by (first_of o none)
+kept : (o : Option Failure) → break_by o ≡ break_by (first_of o None)
 kept o = ap break_by (sym (first_none o))
 
 event_break : {t u : Store} {r q : List Pair} (e : Event rule model_calls t r u q) (o : Option Failure) → t.broken ≡ break_by o → u.broken ≡ break_by (first_of o (failure_of e))

@@ -1,10 +1,10 @@
 -- An example, computed: two questions fail in a table of ours; the first failure is the one that is kept, and a held question is refused
 -- with it. Assumes nothing.
+use Rattle.std.specs.Prelude.{Some}
 use Prim.Native.Nat.{ℕ}
 use native.Mathlib.Omega.{arith}
 use mathlib.Core.Path.{◌≡◌, refl}
 use mathlib.Core.List.{List, [], ◌∷◌}
-use mathlib.Core.Option.{some}
 use mathlib.Core.Bool.{true, false}
 use lib.ListN.{replicate}
 use Rattle.histories.specs.Histories.{first_of}
@@ -33,7 +33,7 @@ example =
     ours_after (started 0 0 small (replicate 60 7) tt) calls
     (omega arith, (omega arith, (omega arith, (omega arith, (omega arith, tt)))))
 
-first_kept : first_told example ≡ some (Mismatch 1 0)
+first_kept : first_told example ≡ Some (Mismatch 1 0)
 unfolding computed perform_all example ours_after first_told first_of failure_in
 first_kept = refl
 

@@ -1,9 +1,9 @@
 -- An image that is ours is well formed and has a history, whose first failure is the first that a call told. So refusal 1 never comes
 -- there, and a held question is refused with 8 exactly when an earlier question has failed, with that first failure. Assumes nothing.
+use Rattle.std.specs.Prelude.{None, Option, Some}
 use Prim.Native.Nat.{ℕ, ◌<◌}
 use mathlib.Core.Path.{◌≡◌, refl, sym, ap, ◌∙◌, subst}
 use mathlib.Core.List.{List, [], ◌∷◌}
-use mathlib.Core.Option.{Option, none, some}
 use mathlib.Core.Bool.{true, not, false}
 use lib.Dec.{T}
 use Rattle.instalments.specs.Machine.{yes_in, fail_in, more_at, Roomed, answered, refused_in}
@@ -40,12 +40,12 @@ use Rattle.demands.specs.Started.{model_calls, StorePast, Ours, started, called,
 use Rattle.demands.proofs.Events.{past_break}
 
 -- what is told is a failure only where work fails
-told_again : (f : Failure) → failure_in (told_failure f) ≡ some f
+told_again : (f : Failure) → failure_in (told_failure f) ≡ Some f
 unfolding failure_in
 told_again (Mismatch a b) = refl
 told_again (MissingField a b n) = refl
 
-done_tells_none : (a : Told) → IsDone a → failure_in a ≡ none
+done_tells_none : (a : Told) → IsDone a → failure_in a ≡ None
 unfolding failure_in
 done_tells_none (done l) h = refl
 done_tells_none yes h = refl
@@ -57,7 +57,7 @@ done_tells_none (unopened n l) h = refl
 -- what a turn leaves has a past, with the failure that it tells
 abbrev LeavesPast : Option Failure → Turn → Type 0
 LeavesPast o (refuse r) = Unit {0}
-LeavesPast o (tell a) = failure_in a ≡ none
+LeavesPast o (tell a) = failure_in a ≡ None
 LeavesPast o (leave a k u) = StorePast (first_of o (failure_in a)) u.store u.pending
 
 module _ {o : Option Failure} (t : Table) (h : StorePast o t.store t.pending) where
@@ -70,7 +70,7 @@ module _ {o : Option Failure} (t : Table) (h : StorePast o t.store t.pending) wh
       past_on rule model_calls h (changes (record { call = c; plain = p; words = ws; told = a; steps = k; leaves = g }) n m) refl
 
   -- what is told is no failure
-  no_failure : (x : Option Failure) (s : Store) (ps : List Pair) → x ≡ none → StorePast o s ps → StorePast (first_of o x) s ps
+  no_failure : (x : Option Failure) (s : Store) (ps : List Pair) → x ≡ None → StorePast o s ps → StorePast (first_of o x) s ps
   no_failure x s ps e k = subst (λ (y : Option Failure). StorePast y s ps) (sym (ap (first_of o) e ∙ first_none o)) k
 
   plain_on : (c : Call) → takes_steps c ≡ false → (ws : List ℕ) (turn : Turn) → turn_of c ws t ≡ turn → Plainly t turn → LeavesPast o turn
@@ -78,12 +78,12 @@ module _ {o : Option Failure} (t : Table) (h : StorePast o t.store t.pending) wh
   plain_on c d ws (tell a) e p = done_tells_none a p
   plain_on c d ws (leave a k u) e p = no_failure (failure_in a) u.store u.pending (done_tells_none a p.0) (by_way c d ws a k u e p.2.way)
 
-  worked_on : (budget : ℕ) (x : Roomed Store Pair Failure Refusal) → Kept (StorePast o) (λ f u. StorePast (first_of o (some f)) u []) x → LeavesPast o (worked_turn budget x)
+  worked_on : (budget : ℕ) (x : Roomed Store Pair Failure Refusal) → Kept (StorePast o) (λ f u. StorePast (first_of o (Some f)) u []) x → LeavesPast o (worked_turn budget x)
   unfolding worked_turn failure_in
-  worked_on budget (answered (yes_in k u)) j = no_failure none u [] refl j
+  worked_on budget (answered (yes_in k u)) j = no_failure None u [] refl j
   worked_on budget (answered (fail_in k f u)) j = subst (λ (x : Option Failure). StorePast (first_of o x) u []) (sym (told_again f)) j
-  worked_on budget (answered (more_at u q)) j = no_failure none u q refl j
-  worked_on budget (refused_in k w u q) j = no_failure none u q refl j
+  worked_on budget (answered (more_at u q)) j = no_failure None u q refl j
+  worked_on budget (refused_in k w u q) j = no_failure None u q refl j
 
   work_on : (budget : ℕ) → LeavesPast o (work_turn budget t)
   unfolding work_turn
@@ -121,7 +121,7 @@ call_past : (o : Option Failure) (c : Call) → stored_argument c < word_end →
 call_past o c fits ws f h =
     rw (perform_formed c ws f) (reply_past o ws (turn_of c ws (table ws)) h (turn_sound c fits ws (table ws) (sound_table ws f)) (turn_on (table ws) h c ws))
 
-start_past : (names functor : ℕ) (c : Capacities) (ws : List ℕ) → T (capacities_right names functor c ws) → ImagePast none (start names functor c ws).words
+start_past : (names functor : ℕ) (c : Capacities) (ws : List ℕ) → T (capacities_right names functor c ws) → ImagePast None (start names functor c ws).words
 unfolding start provided response_of empty_table first_failure
 start_past names functor c ws h =
     let e : (start names functor c ws).words ≡ words (empty_table names functor c) = rw (true_of (capacities_right names functor c ws) h) in
@@ -156,23 +156,23 @@ ours_break o = past_break (ours_past o)
 -- A held question, where none is asked: refused with 8 exactly when an earlier question has failed; the refusal carries the first
 -- failure; and with none it is the plain question.
 module _ {ws : List ℕ} (o : Ours ws) (q : Question) (b : ℕ) (held : q.held ≡ true) (idle : T (not (is_asked (table ws)))) where
-  pub held_carries_first : (f : Failure) → first_told o ≡ some f → (perform (model.opens q b) ws).says ≡ told_unopened (broken_by (break_of f))
+  pub held_carries_first : (f : Failure) → first_told o ≡ Some f → (perform (model.opens q b) ws).says ≡ told_unopened (broken_by (break_of f))
   unfolding break_by is_broken
   held_carries_first f e =
       let k : (table ws).store.broken ≡ break_of f = ours_break o ∙ ap break_by e in
       held_refused q b held ws (ours_formed o) idle (rw k (break_kind f)) ∙ ap (λ (x : Break). told_unopened (broken_by x)) k
 
-  pub held_none_failed : first_told o ≡ none → perform (model.opens q b) ws ≡ perform (model.opens (plain q) b) ws
+  pub held_none_failed : first_told o ≡ None → perform (model.opens q b) ws ≡ perform (model.opens (plain q) b) ws
   unfolding break_by is_broken
   held_none_failed e = held_as_plain q b ws (rw (ours_break o ∙ ap break_by e))
 
-  no_break : first_told o ≡ none → T (is_broken (table ws).store) → ⊥
+  no_break : first_told o ≡ None → T (is_broken (table ws).store) → ⊥
   unfolding break_by is_broken
   no_break e h = rw (ours_break o ∙ ap break_by e) at h
 
-  pub held_refused_failed : (k x y n : ℕ) → (perform (model.opens q b) ws).says ≡ told_unopened (R.Broken k x y n) → (f : Failure) × (first_told o ≡ some f)
+  pub held_refused_failed : (k x y n : ℕ) → (perform (model.opens q b) ws).says ≡ told_unopened (R.Broken k x y n) → (f : Failure) × (first_told o ≡ Some f)
   held_refused_failed k x y n e = which (first_told o) refl
     where
-      which : (a : Option Failure) → first_told o ≡ a → (f : Failure) × (first_told o ≡ some f)
-      which (some f) d = (f, d)
-      which none d = absurd (no_break d (refused_broken q b ws k x y n e).broken)
+      which : (a : Option Failure) → first_told o ≡ a → (f : Failure) × (first_told o ≡ Some f)
+      which (Some f) d = (f, d)
+      which None d = absurd (no_break d (refused_broken q b ws k x y n e).broken)

@@ -1,7 +1,6 @@
 -- Tables started by us. An image is ours when it was started and then changed by calls alone. Its history is that of the model's
 -- calls, and its first failure is the first that a call told. Assumes nothing.
-use Rattle.std.specs.Prelude.{ℕ, ◌<◌, ◌≡◌, List, [], ◌∷◌, ◌++◌, false, cond, get_or, T, eqb}
-use Rattle.std.proofs.Math.Option.{Option, none, some}
+use Rattle.std.specs.Prelude.{ℕ, ◌<◌, ◌≡◌, List, [], ◌∷◌, ◌++◌, false, cond, get_or, T, eqb, None, Option, Some}
 use Rattle.histories.specs.Histories.{Calls, first_of, Past}
 use Rattle.model.specs.Format.{word_end, unbroken, mismatched}
 use Rattle.model.specs.Table.{Pair, Break, Capacities, Store, table_of}
@@ -52,22 +51,22 @@ pub data Ours : List ℕ → Type 0 where
 
 -- the failure that is told, if one is
 unfoldable pub failure_in : Told → Option Failure
-failure_in (done l) = none
-failure_in yes = none
-failure_in more = none
-failure_in (failed n l) = some (cond (eqb n mismatched) (F.Mismatch (get_or l 0 0) (get_or l 1 0)) (F.MissingField (get_or l 0 0) (get_or l 1 0) (get_or l 2 0)))
-failure_in (refused n l) = none
-failure_in (unopened n l) = none
+failure_in (done l) = None
+failure_in yes = None
+failure_in more = None
+failure_in (failed n l) = Some (cond (eqb n mismatched) (F.Mismatch (get_or l 0 0) (get_or l 1 0)) (F.MissingField (get_or l 0 0) (get_or l 1 0) (get_or l 2 0)))
+failure_in (refused n l) = None
+failure_in (unopened n l) = None
 
 -- the first failure that a call told
 unfoldable pub first_told : {ws : List ℕ} → Ours ws → Option Failure
-first_told (started names functor c ws h) = none
+first_told (started names functor c ws h) = None
 first_told (called {ws = ws} c fits o) = first_of (first_told o) (failure_in (perform c ws).says)
 
 -- the break words that it leaves; none where there is none
 unfoldable pub break_by : Option Failure → Break
-break_by none = record { kind = unbroken; sub = 0; sup = 0; name = 0 }
-break_by (some f) = break_of f
+break_by None = record { kind = unbroken; sub = 0; sup = 0; name = 0 }
+break_by (Some f) = break_of f
 
 -- pairs of which each is none of those before it
 pub data Once : List Pair → Type 0 where

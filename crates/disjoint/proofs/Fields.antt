@@ -1,17 +1,16 @@
 -- Field records one after the other, and the field that a name finds. Assumes nothing.
-use Rattle.std.specs.Prelude.{None, Some}
+use Rattle.std.specs.Prelude.{None, Some, is_some, Option}
 use Prim.Native.Nat.{ℕ, zero, suc, ◌+◌, ◌-◌, ◌≤◌, ◌<◌}
 use native.Mathlib.Omega.{arith}
 use native.Mathlib.Numerals.{add-one}
 use mathlib.Core.Path.{◌≡◌, refl, sym, ap, ◌∙◌}
 use mathlib.Core.List.{List, [], ◌∷◌}
-use mathlib.Core.Option.{Option, none, some}
 use mathlib.Core.Bool.{Bool, true, false, cond}
 use lib.ListN.{length, take, drop}
 use lib.Seq.{drop-cons}
 use lib.Dec.{eqb}
 use borrow.Author.Tests.{eq-eqb, ne_eqb, eqb-true}
-use Rattle.model.specs.Lists.{is_some, any}
+use Rattle.model.specs.Lists.{any}
 use Rattle.model.specs.Format.{fields_most, attrset}
 use Rattle.model.specs.Table.{Entry, Field, Graph, is}
 use Rattle.model.specs.Shapes.{fields_of, field_named, functor_in, functor_of, has_functor}
@@ -19,7 +18,7 @@ use Rattle.image.specs.Laid.{Laid}
 use Rattle.image.specs.Shown.{fields_in}
 use Rattle.image.specs.Records.{field_at}
 use Rattle.image.proofs.Reading.{fields_count}
-use Rattle.disjoint.specs.Fields.{found_from, number_named, functor_number, functor_record, is_found, field_found, FoundInside}
+use Rattle.disjoint.specs.Fields.{found_from, number_named, functor_number, functor_record, field_found, FoundInside}
 
 -- there are few of them
 pub fields_few : (w : List ℕ) → Laid w → length (fields_in w) ≤ fields_most
@@ -60,7 +59,7 @@ from_first fs i n name = ap (λ (l : List Field). found_from i l name) (whole fs
 
 -- the number found is that of the model's field
 module _ (fs : List Field) where
-  pick : (b : Bool) (i : ℕ) (r : Option ℕ) (o : Option Field) → field_found fs r ≡ o → field_found fs (cond b (Some i) r) ≡ cond b (some (field_at fs i)) o
+  pick : (b : Bool) (i : ℕ) (r : Option ℕ) (o : Option Field) → field_found fs r ≡ o → field_found fs (cond b (Some i) r) ≡ cond b (Some (field_at fs i)) o
   pick true i r o h = refl
   pick false i r o h = h
 
@@ -90,12 +89,11 @@ module _ (fs : List Field) where
   unfolding number_named
   named_inside first count name h = found_inside count first name h
 
-  found_some : (r : Option ℕ) → is_some (field_found fs r) ≡ is_found r
-  unfolding is_some
+  found_some : (r : Option ℕ) → is_some (field_found fs r) ≡ is_some r
   found_some (Some i) = refl
   found_some None = refl
 
-  pub named_some : (first count name : ℕ) → first + count ≤ length fs → is_some (field_named (take count (drop first fs)) name) ≡ is_found (number_named fs first count name)
+  pub named_some : (first count name : ℕ) → first + count ≤ length fs → is_some (field_named (take count (drop first fs)) name) ≡ is_some (number_named fs first count name)
   named_some first count name h = ap is_some (sym (named_is first count name h)) ∙ found_some (number_named fs first count name)
 
   pub functor_number_lem : (first count word : ℕ) → first + count ≤ length fs → field_found fs (functor_number fs first count word) ≡ functor_in (take count (drop first fs)) word
@@ -103,7 +101,7 @@ module _ (fs : List Field) where
   functor_number_lem first count zero h = refl
   functor_number_lem first count (suc name) h = named_is first count name h
 
-  pub functor_some : (first count word : ℕ) → first + count ≤ length fs → is_some (functor_in (take count (drop first fs)) word) ≡ is_found (functor_number fs first count word)
+  pub functor_some : (first count word : ℕ) → first + count ≤ length fs → is_some (functor_in (take count (drop first fs)) word) ≡ is_some (functor_number fs first count word)
   functor_some first count word h = ap is_some (sym (functor_number_lem first count word h)) ∙ found_some (functor_number fs first count word)
 
   pub functor_number_inside : (first count word : ℕ) → first + count ≤ length fs → FoundInside fs (functor_number fs first count word)
@@ -128,7 +126,7 @@ module _ (fs : List Field) (first count r word : ℕ) (read : r ≡ word) where
 -- the functor of an entry whose fields, if it is an attrset, are there
 module _ (g : Graph) (e : Entry) (h : e.kind ≡ attrset → e.x + e.y ≤ length g.fields) where
   by_functor : (b : Bool) → (b ≡ true → e.x + e.y ≤ length g.fields)
-      → field_found g.fields (cond b (functor_number g.fields e.x e.y g.functor) None) ≡ cond b (functor_in (fields_of g.fields e) g.functor) none
+      → field_found g.fields (cond b (functor_number g.fields e.x e.y g.functor) None) ≡ cond b (functor_in (fields_of g.fields e) g.functor) None
   unfolding fields_of
   by_functor true k = functor_number_lem g.fields e.x e.y g.functor (k refl)
   by_functor false k = refl
@@ -149,7 +147,7 @@ module _ (g : Graph) (e : Entry) (h : e.kind ≡ attrset → e.x + e.y ≤ lengt
   unfolding functor_record
   functor_inside = by_inside (is attrset e) inside_if
 
-  pub functor_has : is_found (functor_record g e) ≡ has_functor g e
+  pub functor_has : is_some (functor_record g e) ≡ has_functor g e
   unfolding has_functor
   functor_has = sym (found_some g.fields (functor_record g e)) ∙ ap is_some functor_is
 

@@ -1,5 +1,5 @@
 -- Disjointness by shape is the model's, and the tests of `compatible`. Assumes nothing.
-use Rattle.std.specs.Prelude.{None, Option}
+use Rattle.std.specs.Prelude.{None, Option, is_some}
 use Prim.Native.Nat.{ℕ, ◌+◌, ◌≤◌, ◌<◌}
 use mathlib.Core.Path.{◌≡◌, refl, sym, ap, ◌∙◌}
 use mathlib.Core.List.{List, [], ◌∷◌}
@@ -9,7 +9,7 @@ use lib.Dec.{eqb}
 use types.Run.{OneOf, miss}
 use denote.Enum.Declared.{tag_of}
 use borrow.Author.Tests.{eq-eqb, ne_eqb, eqb-true}
-use Rattle.model.specs.Lists.{is_some, any}
+use Rattle.model.specs.Lists.{any}
 use Rattle.model.specs.Format.{int, float, number, primitive, lambda, attrset, named}
 use Rattle.model.specs.Table.{Entry, Field, Store, Graph, graph_of, entry_at, is}
 use Rattle.model.specs.Shapes.{fields_of, functor_of, has_functor, under_number, lacks_field, closed_lacks, attrsets_disjoint, has_shape, same_shape_disjoint, disjoint, compatible}
@@ -21,7 +21,7 @@ use Rattle.model.specs.contracts.Entry.{the_type}
 use Rattle.laws.specs.Good.{Good}
 use Rattle.disjoint.specs.declared.Shape.{Shape}
 use Rattle.disjoint.specs.declared.Shape.TheVariants as S
-use Rattle.disjoint.specs.Fields.{Inside, fields_held, number_named, functor_number, functor_record, is_found}
+use Rattle.disjoint.specs.Fields.{Inside, fields_held, number_named, functor_number, functor_record}
 use Rattle.disjoint.specs.Shapes.{shape_of, ShapeInside, lacks_some, closed_lacks_in, attrsets_disjoint_in, callable, shapes_disjoint}
 use Rattle.disjoint.proofs.Fields.{rest, whole, named_some, functor_some}
 use Rattle.disjoint.proofs.Views.{attrset_of, Reads, a_variable, a_primitive, a_list, a_lambda, an_attrset, a_named, a_neg, an_inter, a_union, reads, inside}
@@ -32,7 +32,7 @@ module _ (fs : List Field) (a : Attrset) (h : Inside fs a) (f : Field) where
   unfolding lacks_field
   optional n = rw (ne_eqb _ _ n)
 
-  pub required : f.optional ≡ 0 → not (is_found (number_named fs a.first a.count f.name)) ≡ lacks_field (fields_held fs a) f
+  pub required : f.optional ≡ 0 → not (is_some (number_named fs a.first a.count f.name)) ≡ lacks_field (fields_held fs a) f
   unfolding lacks_field
   required z = rw (eq-eqb _ _ z, named_some fs a.first a.count f.name h)
 
@@ -58,7 +58,7 @@ optional_so fs a f o h e n = optional fs a h f (λ q. n (e ∙ q))
 
 -- or it is, as the search by its name tells
 pub required_so : (fs : List Field) (a : Attrset) (f : Field) (o n : ℕ) (r : Bool) (k : Option ℕ) → Inside fs a → o ≡ f.optional → o ≡ 0
-    → n ≡ f.name → k ≡ number_named fs a.first a.count n → r ≡ is_found k → not r ≡ lacks_field (fields_held fs a) f
+    → n ≡ f.name → k ≡ number_named fs a.first a.count n → r ≡ is_some k → not r ≡ lacks_field (fields_held fs a) f
 required_so fs a f o n r k h e z en ek er = rw (er, ek, en) (required fs a h f (sym e ∙ z))
 
 -- the functor's record, of an entry that reads out so
@@ -138,7 +138,7 @@ shaped_inside s e h (a_union q) = tt
 
 -- opens disjointness
 shape_tests : Unit {0}
-unfolding disjoint has_shape same_shape_disjoint attrsets_disjoint closed_lacks attrsets_disjoint_in closed_lacks_in lacks_some fields_of has_functor functor_of is_some is
+unfolding disjoint has_shape same_shape_disjoint attrsets_disjoint closed_lacks attrsets_disjoint_in closed_lacks_in lacks_some fields_of has_functor functor_of is
 shape_tests = tt
 
 -- of shapes that are known to be these

@@ -1,6 +1,5 @@
 -- A field by its name, as the number of its record. Assumes nothing.
-use Rattle.std.specs.Prelude.{ℕ, zero, suc, ◌+◌, ◌<◌, ◌≤◌, List, [], ◌∷◌, Bool, true, false, cond, length, take, drop, eqb, None, Some}
-use Rattle.std.proofs.Math.Option.{Option, none, some}
+use Rattle.std.specs.Prelude.{ℕ, zero, suc, ◌+◌, ◌<◌, ◌≤◌, List, [], ◌∷◌, Bool, true, false, cond, length, take, drop, eqb, None, Some, Option}
 use Rattle.model.specs.Format.{attrset}
 use Rattle.model.specs.Table.{Entry, Field, Graph, is}
 use Rattle.model.specs.declared.Attrset.{Attrset}
@@ -30,14 +29,10 @@ functor_number fs first count (suc name) = number_named fs first count name
 unfoldable pub functor_record : Graph → Entry → Option ℕ
 functor_record g e = cond (is attrset e) (functor_number g.fields e.x e.y g.functor) None
 
-abbrev pub is_found : Option ℕ → Bool
-is_found (Some i) = true
-is_found None = false
-
 -- the field that was found
 abbrev pub field_found : List Field → Option ℕ → Option Field
-field_found fs (Some i) = some (field_at fs i)
-field_found fs None = none
+field_found fs (Some i) = Some (field_at fs i)
+field_found fs None = None
 
 -- its record is there
 abbrev pub FoundInside : List Field → Option ℕ → Type 0

@@ -1,5 +1,5 @@
 -- Disjointness by shape, as disjoint.rs has it: an entry read out is projected to its shape. Assumes nothing.
-use Rattle.std.specs.Prelude.{List, Bool, true, false, not, ◌&&◌, ◌||◌}
+use Rattle.std.specs.Prelude.{List, Bool, true, false, not, ◌&&◌, ◌||◌, is_some}
 use Rattle.model.specs.Lists.{any}
 use Rattle.model.specs.Table.{Field, Graph}
 use Rattle.model.specs.Shapes.{primitives_disjoint, lacks_field}
@@ -8,7 +8,7 @@ use Rattle.model.specs.declared.Entry.{Entry as EntryOut}
 use Rattle.model.specs.declared.Entry.TheVariants as E
 use Rattle.disjoint.specs.declared.Shape.{Shape}
 use Rattle.disjoint.specs.declared.Shape.TheVariants as S
-use Rattle.disjoint.specs.Fields.{Inside, fields_held, functor_number, is_found}
+use Rattle.disjoint.specs.Fields.{Inside, fields_held, functor_number}
 
 abbrev pub shape_of : EntryOut → Shape
 shape_of (E.Variable l) = S.Opaque
@@ -42,7 +42,7 @@ attrsets_disjoint_in fs a b = closed_lacks_in fs a b || closed_lacks_in fs b a
 
 -- the attrset has a field `__functor`
 unfoldable pub callable : Graph → Attrset → Bool
-callable g a = is_found (functor_number g.fields a.first a.count g.functor)
+callable g a = is_some (functor_number g.fields a.first a.count g.functor)
 
 abbrev pub shapes_disjoint : Graph → Shape → Shape → Bool
 shapes_disjoint g (S.Primitive p) (S.Primitive q) = primitives_disjoint p q

@@ -11,17 +11,10 @@ ghost use Rattle.laws.specs.Good.{Good};
 ghost use Rattle.image.specs.Laid.{Laid};
 ghost use Rattle.image.specs.Shown.{store_of, graph_in, entries_of, fields_in};
 ghost use Rattle.image.specs.Records.{field_at};
-ghost use Rattle.disjoint.specs.Fields.{Inside, fields_held, number_named, functor_number, functor_record, is_found};
+ghost use Rattle.disjoint.specs.Fields.{Inside, fields_held, number_named, functor_number, functor_record};
 ghost use Rattle.disjoint.specs.Shapes.{shape_of, ShapeInside, lacks_some, closed_lacks_in, attrsets_disjoint_in, callable, shapes_disjoint};
 
 use model::{Attrset, Entry};
-
-// A field record by its number, if there is one.
-#[derive(Clone, Copy)]
-pub enum FieldFound {
-    At(u32),
-    Nothing,
-}
 
 // A type's top-level constructor, as far as disjointness asks.
 #[derive(Clone, Copy)]
@@ -34,17 +27,7 @@ pub enum Shape {
     Opaque,
 }
 
-// Whether there is one.
-fn is_found(f: Option<u32>) -> bool
-    ensures { result ≡ is_found f }
-{
-    match f {
-        Some(_) => true,
-        None => false,
-    }
-}
-
-// The record of the field with that name, among the records first to first + count - 1.
+// The number of the field record with that name, among the records first to first + count - 1.
 pub fn field_named(image: &[u32], first: u32, count: u32, name: u32) -> Option<u32>
     requires laid { Laid image.now }
     requires count_in_bounds { first + count ≤ length (fields_in image.now) }
@@ -93,7 +76,7 @@ pub fn has_functor(image: &[u32], n: u32) -> bool
     requires n_in_bounds { n < length (entries_of image.now) }
     ensures { result ≡ has_functor (graph_in image.now) (entry_at (entries_of image.now) n) }
 {
-    is_found(functor_of(image, n))
+    functor_of(image, n).is_some()
 }
 
 // Whether the attrset has a field `__functor`, which makes it callable.
@@ -102,7 +85,7 @@ fn is_callable(image: &[u32], a: Attrset) -> bool
     requires inside { Inside (fields_in image.now) a }
     ensures { result ≡ callable (graph_in image.now) a }
 {
-    is_found(functor_among(image, a.first, a.count))
+    functor_among(image, a.first, a.count).is_some()
 }
 
 // Whether field record j is not optional, and no field of a has its name.
@@ -117,7 +100,7 @@ fn lacks_field(image: &[u32], a: Attrset, j: u32) -> bool
         return false;
     }
     let name = image::field_word(image, j, image::format::NAME_WORD);
-    !is_found(field_named(image, a.first, a.count, name))
+    !field_named(image, a.first, a.count, name).is_some()
 }
 
 // Whether some field of b is not optional and no field of a.
@@ -127,7 +110,7 @@ fn lacks_some(image: &[u32], a: Attrset, b: Attrset) -> bool
     requires inside_2 { Inside (fields_in image.now) b }
     ensures { result ≡ lacks_some (fields_in image.now) a b }
 {
-    let end = j + b.count;
+    let end = b.first + b.count;
     for j in b.first..end {
         if lacks_field(image, a, j) {
             return true;

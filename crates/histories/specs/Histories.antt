@@ -1,7 +1,6 @@
 -- Histories: a table from its start on, through questions opened, steps, failures, questions given up and other calls. One notion for
 -- whatever is said of "any sequence of calls": a promise about history is a function or a law by recursion on it. Assumes nothing.
-use Rattle.std.specs.Prelude.{◌≡◌, List, [], ◌∷◌, ◌++◌, reverse}
-use Rattle.std.proofs.Math.Option.{Option, none, some}
+use Rattle.std.specs.Prelude.{◌≡◌, List, [], ◌∷◌, ◌++◌, reverse, None, Option, Some}
 use Rattle.instalments.specs.Machine.{Outcome, fails, goes}
 
 -- what the calls may do besides steps: a table started; from an idle table, a question opened, with the pairs that are pending then; a
@@ -28,20 +27,20 @@ module _ {T P F : Type 0} (rule : T → P → Outcome T P F) (calls : Calls T P)
 
 -- the first that there is
 unfoldable pub first_of : {F : Type 0} → Option F → Option F → Option F
-first_of (some f) o = some f
-first_of none o = o
+first_of (Some f) o = Some f
+first_of None o = o
 
 module _ {T P F : Type 0} {rule : T → P → Outcome T P F} {calls : Calls T P} where
   -- the first failure, where a question has failed
   unfoldable pub failure_of : {t u : T} {r q : List P} → Event rule calls t r u q → Option F
-  failure_of (opens e o) = none
-  failure_of (steps before p qs e g d) = none
-  failure_of (breaks before p f e g d) = some f
-  failure_of (quits o d) = none
-  failure_of (changes o e d) = none
+  failure_of (opens e o) = None
+  failure_of (steps before p qs e g d) = None
+  failure_of (breaks before p f e g d) = Some f
+  failure_of (quits o d) = None
+  failure_of (changes o e d) = None
 
   unfoldable pub first_failure : {t : T} {r : List P} → History rule calls t r → Option F
-  first_failure (begun s) = none
+  first_failure (begun s) = None
   first_failure (next h e) = first_of (first_failure h) (failure_of e)
 
 -- a history with this first failure

@@ -15,9 +15,6 @@ returns-then-field_word-name c =
     let l = c.loop-i in
     sym (l.invariant.2 ∙ hit _ _ _ _ c.loop-i-test.true l.invariant.1 (sym c.field_word.ensures ∙ c.if-field_word-name.true))
 
-pub overflow_add-i : goal.overflow_add-i
-overflow_add-i c = omega (arith, fields_few c.args.image.now c.requires.laid)
-
 pub loop-i-preserved : goal.loop-i-preserved
 loop-i-preserved c =
     let l = c.loop-i in

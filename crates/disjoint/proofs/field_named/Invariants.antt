@@ -1,4 +1,4 @@
--- What the loops of `field_named` keep, and why they end.
+-- What the loops of `field_named` keep.
 use Prim.Native.Nat.{◌≤◌, ◌-◌}
 use mathlib.Core.Path.{◌≡◌}
 use lib.ListN.{length}
@@ -9,6 +9,3 @@ use Rattle.disjoint.proofs.field_named.Given as goal
 
 abbrev pub invariant-loop-i : goal.invariant-loop-i
 invariant-loop-i l = (l.i ≤ l.end) × (l.end ≤ length (fields_in l.image)) × (number_named (fields_in l.image) l.first l.count l.name ≡ found_from l.i (rest (fields_in l.image) l.i l.end) l.name)
-
-abbrev pub decreases-loop-i : goal.decreases-loop-i
-decreases-loop-i l = l.end - l.i

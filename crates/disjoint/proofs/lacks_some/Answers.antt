@@ -13,9 +13,6 @@ returns-then-lacks_field c =
     let l = c.loop-j in
     sym (lacks_from _ _ _ ∙ (l.invariant.2 ∙ stop _ _ _ _ c.loop-j-test.true l.invariant.1 (sym c.lacks_field.ensures ∙ c.if-lacks_field.true)))
 
-pub overflow_add-j : goal.overflow_add-j
-overflow_add-j c = omega (arith, fields_few c.args.image.now c.requires.laid)
-
 pub loop-j-preserved : goal.loop-j-preserved
 loop-j-preserved c =
     let l = c.loop-j in

@@ -1,4 +1,4 @@
--- What the loops of `lacks_some` keep, and why they end.
+-- What the loops of `lacks_some` keep.
 use Prim.Native.Nat.{◌≤◌, ◌-◌}
 use mathlib.Core.Path.{◌≡◌}
 use lib.ListN.{length}
@@ -13,6 +13,3 @@ abbrev pub invariant-loop-j : goal.invariant-loop-j
 invariant-loop-j l = (l.j ≤ l.end)
     × (l.end ≤ length (fields_in l.image))
     × (any (lacks_field (fields_held (fields_in l.image) l.a)) (rest (fields_in l.image) l.initial.j l.end) ≡ any (lacks_field (fields_held (fields_in l.image) l.a)) (rest (fields_in l.image) l.j l.end))
-
-abbrev pub decreases-loop-j : goal.decreases-loop-j
-decreases-loop-j l = l.end - l.j
