@@ -9,7 +9,7 @@ ghost use Rattle.model.specs.Formed.{well_formed};
 ghost use Rattle.model.specs.Calls.{response_of, read_entry_turn, read_record_turn, read_disjoint_turn};
 ghost use Rattle.model.specs.Told.{told_entry_read, told_record, told_disjointness};
 
-use model::{Record, Refusal};
+use model::{Entry, Record, Refusal};
 
 // Reads an entry out.
 pub fn entry_in(image: &[u32], n: u32) -> Result<Entry, Refusal>
@@ -23,7 +23,7 @@ pub fn entry_in(image: &[u32], n: u32) -> Result<Entry, Refusal>
 }
 
 // Reads record n of a region, 1 to 6, as it stands.
-pub fn record_in(image: &[u32], region: u32, n: u32) -> Record
+pub fn record_in(image: &[u32], region: u32, n: u32) -> Result<Record, Refusal>
     requires { T (well_formed image.now) }
     ensures { told_record result ≡ (response_of image.now (read_record_turn region n image.now)).says }
 {
@@ -39,113 +39,113 @@ pub fn record_in(image: &[u32], region: u32, n: u32) -> Record
 }
 
 // A record of region 1.
-fn entry_record(image: &[u32], n: u32) -> Record
+fn entry_record(image: &[u32], n: u32) -> Result<Record, Refusal>
     requires { T (well_formed image.now) }
     ensures { told_record result ≡ (response_of image.now (read_record_turn 1 n image.now)).says }
 {
     if image::entries_count(image) <= n {
         return Err(Refusal::BadNumber);
     }
-    let kind_word = image::entry_word(image, n, image::format::KIND_WORD);
-    let x_word = image::entry_word(image, n, image::format::X_WORD);
-    let y_word = image::entry_word(image, n, image::format::Y_WORD);
-    let z_word = image::entry_word(image, n, image::format::Z_WORD);
-    let flags_word = image::entry_word(image, n, image::format::FLAGS_WORD);
-    let spread_word = image::entry_word(image, n, image::format::SPREAD_WORD);
-    let negation_word = image::entry_word(image, n, image::format::NEGATION_WORD);
-    Record::Entry {
-        kind: kind_word,
-        x: x_word,
-        y: y_word,
-        z: z_word,
-        flags: flags_word,
-        spread: spread_word,
-        negation: negation_word,
-    }
+    let kind = image::entry_word(image, n, image::format::KIND_WORD);
+    let x = image::entry_word(image, n, image::format::X_WORD);
+    let y = image::entry_word(image, n, image::format::Y_WORD);
+    let z = image::entry_word(image, n, image::format::Z_WORD);
+    let flags = image::entry_word(image, n, image::format::FLAGS_WORD);
+    let spread = image::entry_word(image, n, image::format::SPREAD_WORD);
+    let negation = image::entry_word(image, n, image::format::NEGATION_WORD);
+    Ok(Record::Entry {
+        kind,
+        x,
+        y,
+        z,
+        flags,
+        spread,
+        negation,
+    })
 }
 
 // A record of region 2.
-fn field_record(image: &[u32], n: u32) -> Record
+fn field_record(image: &[u32], n: u32) -> Result<Record, Refusal>
     requires { T (well_formed image.now) }
     ensures { told_record result ≡ (response_of image.now (read_record_turn 2 n image.now)).says }
 {
     if image::fields_count(image) <= n {
         return Err(Refusal::BadNumber);
     }
-    let name_word = image::field_word(image, n, image::format::NAME_WORD);
-    let entry_word = image::field_word(image, n, image::format::ENTRY_WORD);
-    let optional_word = image::field_word(image, n, image::format::OPTIONAL_WORD);
-    Record::Field {
-        name: name_word,
-        entry: entry_word,
-        optional: optional_word,
-    }
+    let name = image::field_word(image, n, image::format::NAME_WORD);
+    let entry = image::field_word(image, n, image::format::ENTRY_WORD);
+    let optional = image::field_word(image, n, image::format::OPTIONAL_WORD);
+    Ok(Record::Field {
+        name,
+        entry,
+        optional,
+    })
 }
 
 // A record of region 3.
-fn bound_record(image: &[u32], n: u32) -> Record
+fn bound_record(image: &[u32], n: u32) -> Result<Record, Refusal>
     requires { T (well_formed image.now) }
     ensures { told_record result ≡ (response_of image.now (read_record_turn 3 n image.now)).says }
 {
     if image::bounds_count(image) <= n {
         return Err(Refusal::BadNumber);
     }
-    let variable_word = image::bound_word(image, n, image::format::VARIABLE_WORD);
-    let side_word = image::bound_word(image, n, image::format::SIDE_WORD);
-    let bound_word = image::bound_word(image, n, image::format::BOUND_WORD);
-    Record::Bound {
-        variable: variable_word,
-        side: side_word,
-        bound: bound_word,
-    }
+    let variable = image::bound_word(image, n, image::format::VARIABLE_WORD);
+    let side = image::bound_word(image, n, image::format::SIDE_WORD);
+    let bound = image::bound_word(image, n, image::format::BOUND_WORD);
+    Ok(Record::Bound {
+        variable,
+        side,
+        bound,
+    })
 }
 
 // A record of region 4.
-fn visited_record(image: &[u32], n: u32) -> Record
+fn visited_record(image: &[u32], n: u32) -> Result<Record, Refusal>
     requires { T (well_formed image.now) }
     ensures { told_record result ≡ (response_of image.now (read_record_turn 4 n image.now)).says }
 {
     if image::visited_count(image) <= n {
         return Err(Refusal::BadNumber);
     }
-    let sub_word = image::visited_word(image, n, image::format::VISITED_SUB_WORD);
-    let sup_word = image::visited_word(image, n, image::format::VISITED_SUP_WORD);
-    Record::Visited {
-        sub: sub_word,
-        sup: sup_word,
-    }
+    let sub = image::visited_word(image, n, image::format::VISITED_SUB_WORD);
+    let sup = image::visited_word(image, n, image::format::VISITED_SUP_WORD);
+    Ok(Record::Visited {
+        sub,
+        sup,
+    })
 }
 
 // A record of region 5.
-fn pending_record(image: &[u32], n: u32) -> Record
+fn pending_record(image: &[u32], n: u32) -> Result<Record, Refusal>
     requires { T (well_formed image.now) }
     ensures { told_record result ≡ (response_of image.now (read_record_turn 5 n image.now)).says }
 {
     if image::pending_count(image) <= n {
         return Err(Refusal::BadNumber);
     }
-    let sub_word = image::pending_word(image, n, image::format::PENDING_SUB_WORD);
-    let sup_word = image::pending_word(image, n, image::format::PENDING_SUP_WORD);
-    Record::Pending {
-        sub: sub_word,
-        sup: sup_word,
-    }
+    let sub = image::pending_word(image, n, image::format::PENDING_SUB_WORD);
+    let sup = image::pending_word(image, n, image::format::PENDING_SUP_WORD);
+    Ok(Record::Pending {
+        sub,
+        sup,
+    })
 }
 
 // A record of region 6.
-fn equal_record(image: &[u32], n: u32) -> Record
+fn equal_record(image: &[u32], n: u32) -> Result<Record, Refusal>
     requires { T (well_formed image.now) }
     ensures { told_record result ≡ (response_of image.now (read_record_turn 6 n image.now)).says }
 {
     if image::equals_count(image) <= n {
         return Err(Refusal::BadNumber);
     }
-    let left_word = image::equal_word(image, n, image::format::EQUAL_LEFT_WORD);
-    let right_word = image::equal_word(image, n, image::format::EQUAL_RIGHT_WORD);
-    Record::Equal {
-        left: left_word,
-        right: right_word,
-    }
+    let left = image::equal_word(image, n, image::format::EQUAL_LEFT_WORD);
+    let right = image::equal_word(image, n, image::format::EQUAL_RIGHT_WORD);
+    Ok(Record::Equal {
+        left,
+        right,
+    })
 }
 
 // Whether two entries share no value.

@@ -7,10 +7,10 @@ use Rattle.changes.proofs.dynamic_known.Goals as goal
 pub entries_count-requires : goal.entries_count-requires
 entries_count-requires c = formed_laid _ c.requires
 
-pub returns-in-Absent : goal.returns-in-Absent
+pub returns-in-None : goal.returns-in-None
 unfolding dynamic_known
-returns-in-Absent c = rw c.in-Absent.is
+returns-in-None c = rw c.in-None.is
 
-pub returns-in-Present : goal.returns-in-Present
+pub returns-in-Some : goal.returns-in-Some
 unfolding dynamic_known is_entry
-returns-in-Present c = rw (c.in-Present.is, c.entries_count.ensures)
+returns-in-Some c = rw (c.in-Some.is, c.entries_count.ensures)

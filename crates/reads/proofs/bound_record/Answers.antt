@@ -27,14 +27,14 @@ returns-then-bounds_count-n c =
     let w = c.args.image.now in
     (stopped w BadNumber _ (is_region 3 && ltb c.args.n (count w 3)) (no_record w 3 c.args.n (omega (arith, c.bounds_count.ensures, bounds-are w)))).says
 
-pub bound_word-variable_word-requires-clause-laid : goal.bound_word-variable_word-requires-clause-laid
-bound_word-variable_word-requires-clause-laid c = formed_laid _ c.requires
+pub bound_word-variable-requires-clause-laid : goal.bound_word-variable-requires-clause-laid
+bound_word-variable-requires-clause-laid c = formed_laid _ c.requires
 
-pub bound_word-side_word-requires-clause-laid : goal.bound_word-side_word-requires-clause-laid
-bound_word-side_word-requires-clause-laid c = formed_laid _ c.requires
+pub bound_word-side-requires-clause-laid : goal.bound_word-side-requires-clause-laid
+bound_word-side-requires-clause-laid c = formed_laid _ c.requires
 
-pub bound_word-bound_word-requires-clause-laid : goal.bound_word-bound_word-requires-clause-laid
-bound_word-bound_word-requires-clause-laid c = formed_laid _ c.requires
+pub bound_word-bound-requires-clause-laid : goal.bound_word-bound-requires-clause-laid
+bound_word-bound-requires-clause-laid c = formed_laid _ c.requires
 
 pub returns : goal.returns
 unfolding read_record_turn response_of width_of table
@@ -44,4 +44,4 @@ returns c =
     let l = formed_laid w c.requires in
     let lt : n < count w 3 = omega (arith, c.bounds_count.ensures, bounds-are w) in
     read_on w BadNumber _ (is_region 3 && ltb n (count w 3)) (a_record w 3 n refl lt)
-    (rw (c.bound_word-variable_word.ensures, c.bound_word-side_word.ensures, c.bound_word-bound_word.ensures) (ap (λ (x : List ℕ). done (3 ∷ x)) (record_words bound_coded w 3 n _ lt (omega arith))))
+    (rw (c.bound_word-variable.ensures, c.bound_word-side.ensures, c.bound_word-bound.ensures) (ap (λ (x : List ℕ). done (3 ∷ x)) (record_words bound_coded w 3 n _ lt (omega arith))))

@@ -27,26 +27,26 @@ returns-then-entries_count-n c =
     let w = c.args.image.now in
     (stopped w BadNumber _ (is_region 1 && ltb c.args.n (count w 1)) (no_record w 1 c.args.n (omega (arith, c.entries_count.ensures, entries-are w)))).says
 
-pub entry_word-kind_word-requires-clause-laid : goal.entry_word-kind_word-requires-clause-laid
-entry_word-kind_word-requires-clause-laid c = formed_laid _ c.requires
+pub entry_word-kind-requires-clause-laid : goal.entry_word-kind-requires-clause-laid
+entry_word-kind-requires-clause-laid c = formed_laid _ c.requires
 
-pub entry_word-x_word-requires-clause-laid : goal.entry_word-x_word-requires-clause-laid
-entry_word-x_word-requires-clause-laid c = formed_laid _ c.requires
+pub entry_word-x-requires-clause-laid : goal.entry_word-x-requires-clause-laid
+entry_word-x-requires-clause-laid c = formed_laid _ c.requires
 
-pub entry_word-y_word-requires-clause-laid : goal.entry_word-y_word-requires-clause-laid
-entry_word-y_word-requires-clause-laid c = formed_laid _ c.requires
+pub entry_word-y-requires-clause-laid : goal.entry_word-y-requires-clause-laid
+entry_word-y-requires-clause-laid c = formed_laid _ c.requires
 
-pub entry_word-z_word-requires-clause-laid : goal.entry_word-z_word-requires-clause-laid
-entry_word-z_word-requires-clause-laid c = formed_laid _ c.requires
+pub entry_word-z-requires-clause-laid : goal.entry_word-z-requires-clause-laid
+entry_word-z-requires-clause-laid c = formed_laid _ c.requires
 
-pub entry_word-flags_word-requires-clause-laid : goal.entry_word-flags_word-requires-clause-laid
-entry_word-flags_word-requires-clause-laid c = formed_laid _ c.requires
+pub entry_word-flags-requires-clause-laid : goal.entry_word-flags-requires-clause-laid
+entry_word-flags-requires-clause-laid c = formed_laid _ c.requires
 
-pub entry_word-spread_word-requires-clause-laid : goal.entry_word-spread_word-requires-clause-laid
-entry_word-spread_word-requires-clause-laid c = formed_laid _ c.requires
+pub entry_word-spread-requires-clause-laid : goal.entry_word-spread-requires-clause-laid
+entry_word-spread-requires-clause-laid c = formed_laid _ c.requires
 
-pub entry_word-negation_word-requires-clause-laid : goal.entry_word-negation_word-requires-clause-laid
-entry_word-negation_word-requires-clause-laid c = formed_laid _ c.requires
+pub entry_word-negation-requires-clause-laid : goal.entry_word-negation-requires-clause-laid
+entry_word-negation-requires-clause-laid c = formed_laid _ c.requires
 
 pub returns : goal.returns
 unfolding read_record_turn response_of width_of table
@@ -56,4 +56,4 @@ returns c =
     let l = formed_laid w c.requires in
     let lt : n < count w 1 = omega (arith, c.entries_count.ensures, entries-are w) in
     read_on w BadNumber _ (is_region 1 && ltb n (count w 1)) (a_record w 1 n refl lt)
-    (rw (c.entry_word-kind_word.ensures, c.entry_word-x_word.ensures, c.entry_word-y_word.ensures, c.entry_word-z_word.ensures, c.entry_word-flags_word.ensures, c.entry_word-spread_word.ensures, c.entry_word-negation_word.ensures) (ap (λ (x : List ℕ). done (1 ∷ x)) (record_words entry_coded w 1 n _ lt (omega arith))))
+    (rw (c.entry_word-kind.ensures, c.entry_word-x.ensures, c.entry_word-y.ensures, c.entry_word-z.ensures, c.entry_word-flags.ensures, c.entry_word-spread.ensures, c.entry_word-negation.ensures) (ap (λ (x : List ℕ). done (1 ∷ x)) (record_words entry_coded w 1 n _ lt (omega arith))))

@@ -27,11 +27,11 @@ returns-then-equals_count-n c =
     let w = c.args.image.now in
     (stopped w BadNumber _ (is_region 6 && ltb c.args.n (count w 6)) (no_record w 6 c.args.n (omega (arith, c.equals_count.ensures, equals-are w)))).says
 
-pub equal_word-left_word-requires-clause-laid : goal.equal_word-left_word-requires-clause-laid
-equal_word-left_word-requires-clause-laid c = formed_laid _ c.requires
+pub equal_word-left-requires-clause-laid : goal.equal_word-left-requires-clause-laid
+equal_word-left-requires-clause-laid c = formed_laid _ c.requires
 
-pub equal_word-right_word-requires-clause-laid : goal.equal_word-right_word-requires-clause-laid
-equal_word-right_word-requires-clause-laid c = formed_laid _ c.requires
+pub equal_word-right-requires-clause-laid : goal.equal_word-right-requires-clause-laid
+equal_word-right-requires-clause-laid c = formed_laid _ c.requires
 
 pub returns : goal.returns
 unfolding read_record_turn response_of width_of table
@@ -41,4 +41,4 @@ returns c =
     let l = formed_laid w c.requires in
     let lt : n < count w 6 = omega (arith, c.equals_count.ensures, equals-are w) in
     read_on w BadNumber _ (is_region 6 && ltb n (count w 6)) (a_record w 6 n refl lt)
-    (rw (c.equal_word-left_word.ensures, c.equal_word-right_word.ensures) (ap (λ (x : List ℕ). done (6 ∷ x)) (record_words equal_coded w 6 n _ lt (omega arith))))
+    (rw (c.equal_word-left.ensures, c.equal_word-right.ensures) (ap (λ (x : List ℕ). done (6 ∷ x)) (record_words equal_coded w 6 n _ lt (omega arith))))

@@ -27,14 +27,14 @@ returns-then-fields_count-n c =
     let w = c.args.image.now in
     (stopped w BadNumber _ (is_region 2 && ltb c.args.n (count w 2)) (no_record w 2 c.args.n (omega (arith, c.fields_count.ensures, fields-are w)))).says
 
-pub field_word-name_word-requires-clause-laid : goal.field_word-name_word-requires-clause-laid
-field_word-name_word-requires-clause-laid c = formed_laid _ c.requires
+pub field_word-name-requires-clause-laid : goal.field_word-name-requires-clause-laid
+field_word-name-requires-clause-laid c = formed_laid _ c.requires
 
-pub field_word-entry_word-requires-clause-laid : goal.field_word-entry_word-requires-clause-laid
-field_word-entry_word-requires-clause-laid c = formed_laid _ c.requires
+pub field_word-entry-requires-clause-laid : goal.field_word-entry-requires-clause-laid
+field_word-entry-requires-clause-laid c = formed_laid _ c.requires
 
-pub field_word-optional_word-requires-clause-laid : goal.field_word-optional_word-requires-clause-laid
-field_word-optional_word-requires-clause-laid c = formed_laid _ c.requires
+pub field_word-optional-requires-clause-laid : goal.field_word-optional-requires-clause-laid
+field_word-optional-requires-clause-laid c = formed_laid _ c.requires
 
 pub returns : goal.returns
 unfolding read_record_turn response_of width_of table
@@ -44,4 +44,4 @@ returns c =
     let l = formed_laid w c.requires in
     let lt : n < count w 2 = omega (arith, c.fields_count.ensures, fields-are w) in
     read_on w BadNumber _ (is_region 2 && ltb n (count w 2)) (a_record w 2 n refl lt)
-    (rw (c.field_word-name_word.ensures, c.field_word-entry_word.ensures, c.field_word-optional_word.ensures) (ap (λ (x : List ℕ). done (2 ∷ x)) (record_words field_coded w 2 n _ lt (omega arith))))
+    (rw (c.field_word-name.ensures, c.field_word-entry.ensures, c.field_word-optional.ensures) (ap (λ (x : List ℕ). done (2 ∷ x)) (record_words field_coded w 2 n _ lt (omega arith))))

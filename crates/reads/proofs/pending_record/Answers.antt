@@ -27,11 +27,11 @@ returns-then-pending_count-n c =
     let w = c.args.image.now in
     (stopped w BadNumber _ (is_region 5 && ltb c.args.n (count w 5)) (no_record w 5 c.args.n (omega (arith, c.pending_count.ensures, pending-are w)))).says
 
-pub pending_word-sub_word-requires-clause-laid : goal.pending_word-sub_word-requires-clause-laid
-pending_word-sub_word-requires-clause-laid c = formed_laid _ c.requires
+pub pending_word-sub-requires-clause-laid : goal.pending_word-sub-requires-clause-laid
+pending_word-sub-requires-clause-laid c = formed_laid _ c.requires
 
-pub pending_word-sup_word-requires-clause-laid : goal.pending_word-sup_word-requires-clause-laid
-pending_word-sup_word-requires-clause-laid c = formed_laid _ c.requires
+pub pending_word-sup-requires-clause-laid : goal.pending_word-sup-requires-clause-laid
+pending_word-sup-requires-clause-laid c = formed_laid _ c.requires
 
 pub returns : goal.returns
 unfolding read_record_turn response_of width_of table
@@ -41,4 +41,4 @@ returns c =
     let l = formed_laid w c.requires in
     let lt : n < count w 5 = omega (arith, c.pending_count.ensures, pending-are w) in
     read_on w BadNumber _ (is_region 5 && ltb n (count w 5)) (a_record w 5 n refl lt)
-    (rw (c.pending_word-sub_word.ensures, c.pending_word-sup_word.ensures) (ap (λ (x : List ℕ). done (5 ∷ x)) (record_words pending_coded w 5 n _ lt (omega arith))))
+    (rw (c.pending_word-sub.ensures, c.pending_word-sup.ensures) (ap (λ (x : List ℕ). done (5 ∷ x)) (record_words pending_coded w 5 n _ lt (omega arith))))

@@ -27,11 +27,11 @@ returns-then-visited_count-n c =
     let w = c.args.image.now in
     (stopped w BadNumber _ (is_region 4 && ltb c.args.n (count w 4)) (no_record w 4 c.args.n (omega (arith, c.visited_count.ensures, visited-are w)))).says
 
-pub visited_word-sub_word-requires-clause-laid : goal.visited_word-sub_word-requires-clause-laid
-visited_word-sub_word-requires-clause-laid c = formed_laid _ c.requires
+pub visited_word-sub-requires-clause-laid : goal.visited_word-sub-requires-clause-laid
+visited_word-sub-requires-clause-laid c = formed_laid _ c.requires
 
-pub visited_word-sup_word-requires-clause-laid : goal.visited_word-sup_word-requires-clause-laid
-visited_word-sup_word-requires-clause-laid c = formed_laid _ c.requires
+pub visited_word-sup-requires-clause-laid : goal.visited_word-sup-requires-clause-laid
+visited_word-sup-requires-clause-laid c = formed_laid _ c.requires
 
 pub returns : goal.returns
 unfolding read_record_turn response_of width_of table
@@ -41,4 +41,4 @@ returns c =
     let l = formed_laid w c.requires in
     let lt : n < count w 4 = omega (arith, c.visited_count.ensures, visited-are w) in
     read_on w BadNumber _ (is_region 4 && ltb n (count w 4)) (a_record w 4 n refl lt)
-    (rw (c.visited_word-sub_word.ensures, c.visited_word-sup_word.ensures) (ap (λ (x : List ℕ). done (4 ∷ x)) (record_words visited_coded w 4 n _ lt (omega arith))))
+    (rw (c.visited_word-sub.ensures, c.visited_word-sup.ensures) (ap (λ (x : List ℕ). done (4 ∷ x)) (record_words visited_coded w 4 n _ lt (omega arith))))
