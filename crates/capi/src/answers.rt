@@ -6,10 +6,7 @@ ghost use Rattle.operators.specs.Operators.{told_resolved};
 ghost use Rattle.capi.specs.Answers.{answer, answer_of};
 
 use crate::Answer;
-use model::{
-    Attrset, Carried, Disjointness, Dynamic, Entry, EntryRead, Failure, Instalment, Made, Opening,
-    Record, Refusal, Reply,
-};
+use model::{Attrset, Carried, Entry, Failure, Instalment, Record, Refusal};
 use names::{Compared, Counted, Found, Order, Placed};
 use operators::Resolved;
 
@@ -212,8 +209,8 @@ pub fn of_reply(reply: Reply) -> Answer
     ensures { result ≡ answer_of 0 (told_reply reply) }
 {
     match reply {
-        Reply::Done => none(DONE, 0, 0),
-        Reply::Refused(refusal) => of_refusal(0, refusal),
+        Ok(()) => none(DONE, 0, 0),
+        Err(refusal) => of_refusal(0, refusal),
     }
 }
 
@@ -222,8 +219,8 @@ pub fn of_made(made: Made) -> Answer
     ensures { result ≡ answer_of 0 (told_made made) }
 {
     match made {
-        Made::Number(n) => one(DONE, 0, 0, n),
-        Made::Refused(refusal) => of_refusal(0, refusal),
+        Ok(n) => one(DONE, 0, 0, n),
+        Err(refusal) => of_refusal(0, refusal),
     }
 }
 
@@ -246,8 +243,8 @@ pub fn of_opening(opening: Opening) -> Answer
     ensures { result ≡ answer_of (steps_of opening) (told_opening opening) }
 {
     match opening {
-        Opening::Refused(refusal) => of_unopened(refusal),
-        Opening::Worked(instalment) => of_instalment(instalment),
+        Err(refusal) => of_unopened(refusal),
+        Ok(instalment) => of_instalment(instalment),
     }
 }
 
@@ -267,8 +264,8 @@ fn of_attrset(a: Attrset) -> Answer
     let is_open = bit_of(a.is_open);
     let dynamic = a.dynamic;
     match dynamic {
-        Dynamic::Absent => six(4, first, count, is_open, 0, 0),
-        Dynamic::Present(n) => six(4, first, count, is_open, 1, n),
+        None => six(4, first, count, is_open, 0, 0),
+        Some(n) => six(4, first, count, is_open, 1, n),
     }
 }
 
@@ -294,8 +291,8 @@ pub fn of_entry_read(read: EntryRead) -> Answer
     ensures { result ≡ answer_of 0 (told_entry_read read) }
 {
     match read {
-        EntryRead::Entry(entry) => of_entry(entry),
-        EntryRead::Refused(refusal) => of_refusal(0, refusal),
+        Ok(entry) => of_entry(entry),
+        Err(refusal) => of_refusal(0, refusal),
     }
 }
 
@@ -326,7 +323,7 @@ pub fn of_record(read: Record) -> Answer
         Record::Visited { sub, sup } => three(DONE, 0, 0, 4, sub, sup),
         Record::Pending { sub, sup } => three(DONE, 0, 0, 5, sub, sup),
         Record::Equal { left, right } => three(DONE, 0, 0, 6, left, right),
-        Record::Refused(refusal) => of_refusal(0, refusal),
+        Err(refusal) => of_refusal(0, refusal),
     }
 }
 
@@ -335,9 +332,9 @@ pub fn of_disjointness(disjointness: Disjointness) -> Answer
     ensures { result ≡ answer_of 0 (told_disjointness disjointness) }
 {
     match disjointness {
-        Disjointness::Disjoint => one(DONE, 0, 0, 1),
-        Disjointness::NotDisjoint => one(DONE, 0, 0, 0),
-        Disjointness::Refused(refusal) => of_refusal(0, refusal),
+        Ok(true) => one(DONE, 0, 0, 1),
+        Ok(false) => one(DONE, 0, 0, 0),
+        Err(refusal) => of_refusal(0, refusal),
     }
 }
 

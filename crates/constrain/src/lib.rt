@@ -17,11 +17,10 @@ ghost use Rattle.constrain.specs.Fields.{ask_of, ask_dynamic, both_dynamic, gath
 ghost use Rattle.constrain.specs.Next.{Comes, ComesUnder, ComesOf, words_at, lambda_of};
 
 use decision::Arm;
-use disjoint::FieldFound;
-use model::{Attrset, Dynamic, Entry};
+use model::{Attrset, Entry};
 
 // The consequences of a pair, the first to be worked first.
-#[derive(Clone, Copy)]
+#[derive(Clone, Copy, Debug, PartialEq, Eq)]
 pub enum Pairs {
     Nothing,
     One(u32, u32),
@@ -31,7 +30,7 @@ pub enum Pairs {
 }
 
 // What a pair comes to.
-#[derive(Clone, Copy)]
+#[derive(Clone, Copy, Debug, PartialEq, Eq)]
 pub enum Next {
     Mismatch,
     // the name of the field
@@ -48,7 +47,7 @@ pub enum Next {
 }
 
 // The words of an entry that the rules read.
-#[derive(Clone, Copy)]
+#[derive(Clone, Copy, Debug, PartialEq, Eq)]
 pub struct Words {
     pub kind: u32,
     pub x: u32,
@@ -56,7 +55,7 @@ pub struct Words {
 }
 
 // What a field of sup asks of sub: an entry under its own, nothing, or it is missing.
-#[derive(Clone, Copy)]
+#[derive(Clone, Copy, Debug, PartialEq, Eq)]
 pub enum FieldAsk {
     Under(u32),
     Nothing,
@@ -90,8 +89,7 @@ fn asks_dynamic(image: &[u32], a: Attrset, j: u32) -> FieldAsk
     requires j_in_bounds { j < length (fields_in image.now) }
     ensures { result ≡ ask_dynamic a.dynamic a.is_open (field_at (fields_in image.now) j) }
 {
-    let dynamic = a.dynamic;
-    if let Dynamic::Present(n) = dynamic {
+    if let Some(n) = a.dynamic {
         return FieldAsk::Under(n);
     }
     if a.is_open {
@@ -113,25 +111,22 @@ pub fn asks(image: &[u32], a: Attrset, j: u32) -> FieldAsk
     let name = image::field_word(image, j, image::format::NAME_WORD);
     let found = disjoint::field_named(image, a.first, a.count, name);
     match found {
-        FieldFound::At(i) => FieldAsk::Under(image::field_word(
+        Some(i) => FieldAsk::Under(image::field_word(
             image,
             i,
             image::format::ENTRY_WORD,
         )),
-        FieldFound::Nothing => asks_dynamic(image, a, j),
+        None => asks_dynamic(image, a, j),
     }
 }
 
 // How many pairs the dynamic types make: one if both have one.
-fn both_dynamic(a: Dynamic, b: Dynamic) -> u32
+fn both_dynamic(a: Option<u32>, b: Option<u32>) -> u32
     ensures { (result ≡ both_dynamic a b) × (result ≤ 1) }
 {
-    match a {
-        Dynamic::Absent => 0,
-        Dynamic::Present(_) => match b {
-            Dynamic::Absent => 0,
-            Dynamic::Present(_) => 1,
-        },
+    match (a, b) {
+        (Some(_), Some(_)) => 1,
+        _ => 0,
     }
 }
 
@@ -156,9 +151,7 @@ fn gather(image: &[u32], a: Attrset, b: Attrset) -> Next
             }
         }
     }
-    let sub_dynamic = a.dynamic;
-    let sup_dynamic = b.dynamic;
-    let count = n + both_dynamic(sub_dynamic, sup_dynamic);
+    let count = n + both_dynamic(a.dynamic, b.dynamic);
     Next::Follow(Pairs::Fields(a, b, count))
 }
 
@@ -332,12 +325,12 @@ fn constrain_functor(image: &[u32], sub: u32, param: u32, body: u32) -> Next
 {
     let found = disjoint::functor_of(image, sub);
     match found {
-        FieldFound::At(i) => Next::Functor {
+        Some(i) => Next::Functor {
             field: image::field_word(image, i, image::format::ENTRY_WORD),
             param,
             body,
         },
-        FieldFound::Nothing => Next::Mismatch,
+        None => Next::Mismatch,
     }
 }
 

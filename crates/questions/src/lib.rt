@@ -13,7 +13,7 @@ ghost use Rattle.model.specs.Told.{told_reply, told_answer, told_opening, steps_
 ghost use Rattle.image.specs.Shown.{Shows, Shown, ShowsAs, ShownAs, store_of, pending_in, pending_to};
 ghost use Rattle.questions.specs.Asking.{Roomy, Fitness, worked};
 
-use model::{Answer, Instalment, Opening, Question, Refusal, Reply};
+use model::{Answer, Instalment, Question, Refusal};
 use step::Step;
 
 // Whether a question is recorded in equals.
@@ -31,36 +31,36 @@ fn pairs_of(q: Question) -> u32
 }
 
 // The region that lacks a record for a question, or none.
-fn room_for(image: &[u32], q: Question) -> Reply
+fn room_for(image: &[u32], q: Question) -> Result<(), Refusal>
     requires { T (well_formed image.now) }
     ensures { Roomy image.now q result }
 {
     if image::pending_capacity(image) < pairs_of(q) {
-        return Reply::Refused(Refusal::NoRoom(image::format::PENDING));
+        return Err(Refusal::NoRoom(image::format::PENDING));
     }
     if !is_recorded(q) {
-        return Reply::Done;
+        return Ok(());
     }
     if image::equals_capacity(image) <= image::equals_count(image) {
-        return Reply::Refused(Refusal::NoRoom(image::format::EQUALS));
+        return Err(Refusal::NoRoom(image::format::EQUALS));
     }
-    Reply::Done
+    Ok(())
 }
 
 // A question's refusal, the first in 01's order, or none.
-fn fitness(image: &[u32], q: Question) -> Reply
+fn fitness(image: &[u32], q: Question) -> Result<(), Refusal>
     requires { T (well_formed image.now) }
     ensures { Fitness image.now q result }
 {
     if image::is_asked(image) {
-        return Reply::Refused(Refusal::Busy);
+        return Err(Refusal::Busy);
     }
     let kind = image::break_kind(image);
     if q.held & (kind != image::format::UNBROKEN) {
         let sub = image::break_sub(image);
         let sup = image::break_sup(image);
         let name = image::break_name(image);
-        return Reply::Refused(Refusal::Broken {
+        return Err(Refusal::Broken {
             kind,
             sub,
             sup,
@@ -68,10 +68,10 @@ fn fitness(image: &[u32], q: Question) -> Reply
         });
     }
     if image::entries_count(image) <= q.left {
-        return Reply::Refused(Refusal::BadNumber);
+        return Err(Refusal::BadNumber);
     }
     if image::entries_count(image) <= q.right {
-        return Reply::Refused(Refusal::BadNumber);
+        return Err(Refusal::BadNumber);
     }
     room_for(image, q)
 }
@@ -103,19 +103,19 @@ fn put_pairs(image: &mut [u32], q: Question)
 }
 
 // Asks a question: the first half of an opening.
-fn ask(image: &mut [u32], q: Question) -> Reply
+fn ask(image: &mut [u32], q: Question) -> Result<(), Refusal>
     requires { T (well_formed image.old) }
     ensures result_value { told_reply result ≡ (response_of image.old (ask_turn q (table image.old))).says }
     ensures image_after { image.new ≡ (response_of image.old (ask_turn q (table image.old))).words }
 {
     let fit = fitness(image, q);
-    if let Reply::Refused(r) = fit {
-        return Reply::Refused(r);
+    if let Err(r) = fit {
+        return Err(r);
     }
     record_equal(image, q);
     put_pairs(image, q);
     writes::open_question(image);
-    Reply::Done // the question is asked
+    Ok(()) // the question is asked
 }
 
 // Works a question, at most so many steps.
@@ -175,30 +175,30 @@ pub fn work(image: &mut [u32], budget: u32) -> Instalment
 }
 
 // Opens a question, and works it, at most so many steps.
-pub fn open(image: &mut [u32], q: Question, budget: u32) -> Opening
+pub fn open(image: &mut [u32], q: Question, budget: u32) -> Result<Instalment, Refusal>
     requires { T (well_formed image.old) }
     ensures result_value { told_opening result ≡ (response_of image.old (open_turn q budget (table image.old))).says }
     ensures result_value_2 { steps_of result ≡ (response_of image.old (open_turn q budget (table image.old))).steps }
     ensures image_after { image.new ≡ (response_of image.old (open_turn q budget (table image.old))).words }
 {
     match ask(image, q) {
-        Reply::Refused(r) => Opening::Refused(r),
-        Reply::Done => {
+        Err(r) => Err(r),
+        Ok(()) => {
             let first = work(image, budget);
-            Opening::Worked(first)
+            Ok(first)
         }
     }
 }
 
 // Gives the question up: pending is emptied, and the image idle.
-pub fn abandon(image: &mut [u32]) -> Reply
+pub fn abandon(image: &mut [u32]) -> Result<(), Refusal>
     requires { T (well_formed image.old) }
     ensures result_value { told_reply result ≡ (response_of image.old (abandon_turn (table image.old))).says }
     ensures image_after { image.new ≡ (response_of image.old (abandon_turn (table image.old))).words }
 {
     if !image::is_asked(image) {
-        return Reply::Refused(Refusal::Idle);
+        return Err(Refusal::Idle);
     }
     writes::end_question(image);
-    Reply::Done
+    Ok(())
 }

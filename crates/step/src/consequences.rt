@@ -11,7 +11,7 @@ ghost use Rattle.step.specs.Taken.{Midway};
 ghost use Rattle.step.specs.Put.{field_pair, count_in};
 
 use constrain::{FieldAsk, Pairs};
-use model::{Attrset, Dynamic};
+use model::Attrset;
 
 // Puts what field record j asks of a on pending, if it asks for a pair.
 fn put_field_pair(image: &mut [u32], a: Attrset, j: u32)
@@ -29,13 +29,13 @@ fn put_field_pair(image: &mut [u32], a: Attrset, j: u32)
 }
 
 // Puts the pair of the dynamic types on pending, if both have one.
-fn put_dynamic_pair(image: &mut [u32], a: Dynamic, b: Dynamic)
+fn put_dynamic_pair(image: &mut [u32], a: Option<u32>, b: Option<u32>)
     requires midway { Midway image.old (table image.old) }
     requires b_len_bound { length (pending_in image.old) + length (dynamic_pairs a b) ≤ (store_of image.old).capacities.pending }
     ensures { Midway image.new (pending_to image.old (pending_in image.old ++ dynamic_pairs a b)) }
 {
-    if let Dynamic::Present(m) = a {
-        if let Dynamic::Present(n) = b {
+    if let Some(m) = a {
+        if let Some(n) = b {
             writes::put_consequence(image, m, n);
         }
     }

@@ -24,7 +24,6 @@ ghost use Rattle.step.specs.Made.{TargetIn, settled};
 
 use constrain::{Next, Pairs};
 use model::{Failure, Refusal};
-use type_table::Negated;
 
 // What a step comes to.
 #[derive(Clone, Copy)]
@@ -63,19 +62,19 @@ fn skip(image: &mut [u32])
 }
 
 // Whether there is room for a visited pair and so many consequences, the pair taken off first.
-fn room_for(image: &[u32], more: u32) -> StepRoom
+fn room_for(image: &[u32], more: u32) -> Result<(), Refusal>
     requires t { T (well_formed image.now) }
     requires nonzero { 0 < length (pending_in image.now) }
     ensures { RoomFor image.now (store_of image.now) more result }
 {
     if image::visited_capacity(image) <= image::visited_count(image) {
-        return StepRoom::Lacks(Refusal::NoRoom(image::format::VISITED));
+        return Err(Refusal::NoRoom(image::format::VISITED));
     }
     let others = image::pending_count(image) - 1;
     if image::pending_capacity(image) - others < more {
-        return StepRoom::Lacks(Refusal::NoRoom(image::format::PENDING));
+        return Err(Refusal::NoRoom(image::format::PENDING));
     }
-    StepRoom::Enough
+    Ok(())
 }
 
 // Writes the break words, unless an earlier failure stands there.
@@ -108,7 +107,7 @@ fn fail(image: &mut [u32], sub: u32, sup: u32, failure: Failure) -> Step
     ensures image_after { image.new ≡ (taken image.old (failing (visit (sub ⊑ sup) (store_of image.old)) failure)).words }
 {
     let room = room_for(image, 0);
-    if let StepRoom::Lacks(r) = room {
+    if let Err(r) = room {
         return Step::Refused(r);
     }
     writes::push_visited(image, sub, sup);
@@ -126,7 +125,7 @@ fn follow(image: &mut [u32], sub: u32, sup: u32, pairs: Pairs) -> Step
     ensures image_after { image.new ≡ (taken image.old (goes (visit (sub ⊑ sup) (store_of image.old)) (pairs_in (fields_in image.old) pairs))).words }
 {
     let room = room_for(image, consequences::count_of(pairs));
-    if let StepRoom::Lacks(r) = room {
+    if let Err(r) = room {
         return Step::Refused(r);
     }
     advance(image, sub, sup);
@@ -136,28 +135,28 @@ fn follow(image: &mut [u32], sub: u32, sup: u32, pairs: Pairs) -> Step
 }
 
 // Makes sup or the negation of d, entry by entry, as far as there is room.
-fn make_target(image: &mut [u32], sup: u32, d: u32) -> Negated
+fn make_target(image: &mut [u32], sup: u32, d: u32) -> Option<u32>
     requires negatable { Negatable image.old d }
     requires good { Good (store_of image.old) }
     requires shallow { Shallow (entries_of image.old) }
     requires sup_in_bounds { sup < length (entries_of image.old) }
     ensures { TargetIn (table image.old) sup d result image.new }
 {
-    let Negated::Number(n) = type_table::negate(image, d) else {
-        return Negated::Full;
+    let Some(n) = type_table::negate(image, d) else {
+        return None;
     };
     if disjoint::union_contains_member(image, sup, n) {
-        return Negated::Number(sup);
+        return Some(sup);
     }
     let number = image::entries_count(image);
     if image::entries_capacity(image) <= number {
-        return Negated::Full;
+        return None;
     }
     let spread = 1
         + image::entry_word(image, sup, image::format::SPREAD_WORD)
         + image::entry_word(image, n, image::format::SPREAD_WORD);
     writes::push_entry(image, image::format::UNION, sup, n, 0, 0, spread);
-    Negated::Number(number)
+    Some(number)
 }
 
 // Whether an entry from number old on spreads too far.
@@ -208,7 +207,7 @@ fn follow_isolated(image: &mut [u32], sub: u32, sup: u32, c: u32, d: u32) -> Ste
     ensures image_after { image.new ≡ (taken image.old (outcome_for (store_of image.old) (sub ⊑ sup) (Isolate c d))).words }
 {
     let old = image::entries_count(image);
-    let Negated::Number(target) = make_target(image, sup, d) else {
+    let Some(target) = make_target(image, sup, d) else {
         type_table::undo(image, old);
         return Step::Refused(Refusal::NoRoom(image::format::ENTRIES)); // however deep it would go
     };
@@ -233,7 +232,7 @@ fn follow_functor(image: &mut [u32], sub: u32, sup: u32, f: u32, param: u32, bod
 }
 
 // Whether there is room for a bound, unless it repeats one, and for the rest of the step.
-fn room_for_bound(image: &[u32], repeated: bool, more: u32) -> StepRoom
+fn room_for_bound(image: &[u32], repeated: bool, more: u32) -> Result<(), Refusal>
     requires t { T (well_formed image.now) }
     requires nonzero { 0 < length (pending_in image.now) }
     ensures { RoomForBound image.now repeated more result }
@@ -242,7 +241,7 @@ fn room_for_bound(image: &[u32], repeated: bool, more: u32) -> StepRoom
         return room_for(image, more);
     }
     if image::bounds_capacity(image) <= image::bounds_count(image) {
-        return StepRoom::Lacks(Refusal::NoRoom(image::format::BOUNDS));
+        return Err(Refusal::NoRoom(image::format::BOUNDS));
     }
     room_for(image, more)
 }
@@ -292,7 +291,7 @@ fn join_bounds(image: &mut [u32], sub: u32, sup: u32, v: u32, side: u32, b: u32)
     let repeated = storage::repeats_bound(image, n, v, side, b);
     let more = storage::count_bounds(image, n, v, other);
     let room = room_for_bound(image, repeated, more);
-    if let StepRoom::Lacks(r) = room {
+    if let Err(r) = room {
         return Step::Refused(r);
     }
     add_bound(image, repeated, v, side, b);

@@ -6,16 +6,16 @@ use Rattle.constrain.proofs.Gathering.{named_by, ask_found, ask_nothing}
 use Rattle.constrain.proofs.asks.Goals as goal
 
 pub field_word-requires-clause-i_in_bounds : goal.field_word-requires-clause-i_in_bounds
-field_word-requires-clause-i_in_bounds c = named_there _ _ _ _ c.requires.inside (sym c.field_named-found.ensures ∙ c.in-At.is)
+field_word-requires-clause-i_in_bounds c = named_there _ _ _ _ c.requires.inside (sym c.field_named-found.ensures ∙ c.in-Some.is)
 
-pub returns-in-At : goal.returns-in-At
-returns-in-At c =
+pub returns-in-Some : goal.returns-in-Some
+returns-in-Some c =
     ap Under c.field_word.ensures
     ∙ ask_found _ c.args.a c.requires.inside _
-    (named_by _ c.args.a c.field_word-name.ensures c.field_named-found.ensures c.in-At.is)
+    (named_by _ c.args.a c.field_word-name.ensures c.field_named-found.ensures c.in-Some.is)
 
-pub returns-in-Nothing : goal.returns-in-Nothing
-returns-in-Nothing c =
+pub returns-in-None : goal.returns-in-None
+returns-in-None c =
     c.asks_dynamic.ensures
     ∙ ask_nothing _ c.args.a c.requires.inside _
-    (named_by _ c.args.a c.field_word-name.ensures c.field_named-found.ensures c.in-Nothing.is)
+    (named_by _ c.args.a c.field_word-name.ensures c.field_named-found.ensures c.in-None.is)

@@ -5,12 +5,12 @@ use Rattle.model.specs.Rules.{functor_rule}
 use Rattle.constrain.proofs.constrain_functor.Goals as goal
 
 pub field_word-requires-clause-i_in_bounds : goal.field_word-requires-clause-i_in_bounds
-field_word-requires-clause-i_in_bounds c = functor_there _ c.requires.good _ c.requires.sub_in_bounds (sym c.functor_of-found.ensures ∙ c.in-At.is)
+field_word-requires-clause-i_in_bounds c = functor_there _ c.requires.good _ c.requires.sub_in_bounds (sym c.functor_of-found.ensures ∙ c.in-Some.is)
 
-pub returns-in-At : goal.returns-in-At
+pub returns-in-Some : goal.returns-in-Some
 unfolding functor_rule
-returns-in-At c sup = record { means = rw (c.field_word.ensures, functor_found _ c.requires.good _ c.requires.sub_in_bounds (sym c.functor_of-found.ensures ∙ c.in-At.is)); applies = tt }
+returns-in-Some c sup = record { means = rw (c.field_word.ensures, functor_found _ c.requires.good _ c.requires.sub_in_bounds (sym c.functor_of-found.ensures ∙ c.in-Some.is)); applies = tt }
 
-pub returns-in-Nothing : goal.returns-in-Nothing
+pub returns-in-None : goal.returns-in-None
 unfolding functor_rule
-returns-in-Nothing c sup = record { means = rw (functor_nothing _ c.requires.good _ c.requires.sub_in_bounds (sym c.functor_of-found.ensures ∙ c.in-Nothing.is)); applies = tt }
+returns-in-None c sup = record { means = rw (functor_nothing _ c.requires.good _ c.requires.sub_in_bounds (sym c.functor_of-found.ensures ∙ c.in-None.is)); applies = tt }

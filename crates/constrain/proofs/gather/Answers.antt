@@ -25,9 +25,6 @@ returns-in-Missing c =
     ap Missing c.field_word.ensures
     ∙ going_missing c.loop-j.invariant c.loop-j-test.true (sym c.asks-ask.ensures ∙ c.in-Missing.is)
 
-pub overflow_add-j : goal.overflow_add-j
-overflow_add-j c = omega (arith, c.loop-j.invariant.there, c.loop-j-test.true, fields_few c.args.image.now c.requires.laid)
-
 pub loop-j-preserved : goal.loop-j-preserved
 loop-j-preserved c =
     let g = c.loop-j.invariant in

@@ -1,4 +1,4 @@
--- What the loops of `gather` keep, and why they end.
+-- What the loops of `gather` keep.
 use Prim.Native.Nat.{◌-◌}
 use Rattle.image.specs.Shown.{fields_in}
 use Rattle.constrain.proofs.Gathering.{Going}
@@ -6,6 +6,3 @@ use Rattle.constrain.proofs.gather.Given as goal
 
 abbrev pub invariant-loop-j : goal.invariant-loop-j
 invariant-loop-j l = Going (fields_in l.image) l.a l.b l.end l.j l.n
-
-abbrev pub decreases-loop-j : goal.decreases-loop-j
-decreases-loop-j l = l.end - l.j
