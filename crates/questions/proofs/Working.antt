@@ -1,4 +1,5 @@
 -- The work loop, turn by turn: what holds after some steps of an instalment, and what each way out answers. Assumes nothing.
+use Rattle.std.specs.Prelude.{Ok, Err, Result}
 use Prim.Native.Nat.{ℕ, zero, suc, ◌+◌, ◌-◌, ◌≤◌, ◌<◌}
 use native.Mathlib.Omega.{arith}
 use mathlib.Core.Path.{◌≡◌, refl, sym, ap, subst, ◌∙◌}
@@ -24,7 +25,7 @@ use Rattle.laws.proofs.Round.{words_table, table_words}
 use Rattle.laws.proofs.StepSound.{keeps_sound}
 use Rattle.image.specs.Shown.{store_of, pending_in}
 use Rattle.step.specs.declared.Step.{Step}
-use Rattle.step.specs.declared.Step.TheVariants.{Went, Failed, Refused}
+use Rattle.step.specs.declared.Step.TheVariants.{Went, Failed}
 use Rattle.step.specs.Taken.{last_pair, before_last, taken_by, taken}
 use Rattle.questions.specs.Asking.{worked}
 
@@ -39,10 +40,10 @@ pub last_split : {A : Type 0} (d : A) (l : List A) → 0 < length l → take (le
 last_split d l lt = split_at d l (length l - 1) (omega arith)
 
 -- what a step came to, by what it says
-abbrev pub Came : Step → Room Refusal → List ℕ → List Pair → Outcome Store Pair Failure → List ℕ → Type 0
-Came Went ro w b o v = (u : Store) × ((qs : List Pair) × ((ro ≡ enough) × ((o ≡ goes u qs) × (v ≡ words (table_of u (b ++ reverse qs))))))
-Came (Failed f) ro w b o v = (u : Store) × ((ro ≡ enough) × ((o ≡ fails f u) × (v ≡ words (table_of u []))))
-Came (Refused r) ro w b o v = (ro ≡ lacks r) × (v ≡ w)
+abbrev pub Came : Result Step Refusal → Room Refusal → List ℕ → List Pair → Outcome Store Pair Failure → List ℕ → Type 0
+Came (Ok Went) ro w b o v = (u : Store) × ((qs : List Pair) × ((ro ≡ enough) × ((o ≡ goes u qs) × (v ≡ words (table_of u (b ++ reverse qs))))))
+Came (Ok (Failed f)) ro w b o v = (u : Store) × ((ro ≡ enough) × ((o ≡ fails f u) × (v ≡ words (table_of u []))))
+Came (Err r) ro w b o v = (ro ≡ lacks r) × (v ≡ w)
 
 came_by : (ro : Room Refusal) (w : List ℕ) (b : List Pair) (o : Outcome Store Pair Failure)
     → Came (taken_by ro w b o).says ro w b o (taken_by ro w b o).words
@@ -52,15 +53,15 @@ came_by enough w b (fails f u) = (u, (refl, (refl, refl)))
 came_by enough w b (goes u qs) = (u, (qs, (refl, (refl, refl))))
 
 -- the step's own rule, at the last pair
-abbrev pub CameAt : Step → List ℕ → List ℕ → Type 0
+abbrev pub CameAt : Result Step Refusal → List ℕ → List ℕ → Type 0
 CameAt x w v = Came x (room (store_of w) (last_pair w) (before_last w)) w (before_last w) (rule (store_of w) (last_pair w)) v
 
-pub came : (x : Step) (w v : List ℕ) → x ≡ (taken w (rule (store_of w) (last_pair w))).says → v ≡ (taken w (rule (store_of w) (last_pair w))).words → CameAt x w v
+pub came : (x : Result Step Refusal) (w v : List ℕ) → x ≡ (taken w (rule (store_of w) (last_pair w))).says → v ≡ (taken w (rule (store_of w) (last_pair w))).words → CameAt x w v
 unfolding room
 came x w v e f =
     let o : Outcome Store Pair Failure = rule (store_of w) (last_pair w) in
     let ro : Room Refusal = room_for (length (before_last w)) o in
-    let k : Came x ro w (before_last w) o (taken w o).words = subst (λ (y : Step). Came y ro w (before_last w) o (taken w o).words) (sym e) (came_by ro w (before_last w) o) in
+    let k : Came x ro w (before_last w) o (taken w o).words = subst (λ (y : Result Step Refusal). Came y ro w (before_last w) o (taken w o).words) (sym e) (came_by ro w (before_last w) o) in
     subst (λ (u : List ℕ). Came x ro w (before_last w) o u) (sym f) k
 
 -- what an instalment tells
@@ -123,19 +124,19 @@ module _ (w₀ : List ℕ) (budget : ℕ) where
           (loop_more rule room budget whole steps (store_of w) (before_last w) (last_pair w) here e) refl e as_found
 
       module _ (lt : steps < budget) (v : List ℕ) where
-        pub running_failed : (f : Failure) → CameAt (Failed f) w v → Tells w₀ budget (A.Failed f) (steps + 1) v
+        pub running_failed : (f : Failure) → CameAt (Ok (Failed f)) w v → Tells w₀ budget (A.Failed f) (steps + 1) v
         unfolding response_of worked_turn
         running_failed f k =
             tells (answered (fail_in (steps + 1) f k.0)) (A.Failed f) (steps + 1) v
             (loop_fails rule room budget whole steps (store_of w) (before_last w) (last_pair w) here lt f k.0 k.1.0 k.1.1.0) refl refl k.1.1.1
 
-        pub running_refused : (r : Refusal) → CameAt (Refused r) w v → Tells w₀ budget (A.Refused r) steps v
+        pub running_refused : (r : Refusal) → CameAt (Err r) w v → Tells w₀ budget (A.Refused r) steps v
         unfolding response_of worked_turn
         running_refused r k =
             tells (refused_in steps r (store_of w) (before_last w ++ (last_pair w ∷ []))) (A.Refused r) steps v
             (loop_lacks rule room budget whole steps (store_of w) (before_last w) (last_pair w) here lt r k.0) refl refl (k.1 ∙ as_found)
 
-        pub running_went : CameAt Went w v → Running w₀ budget (steps + 1) v
+        pub running_went : CameAt (Ok Went) w v → Running w₀ budget (steps + 1) v
         running_went k =
             let u : Store = k.0 in
             let qs : List Pair = k.1.0 in

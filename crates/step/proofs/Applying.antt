@@ -1,4 +1,5 @@
 -- A step by what its pair comes to, and at the last pending pair. Assumes nothing.
+use Rattle.std.specs.Prelude.{Ok, Result}
 use Prim.Native.Nat.{ℕ, ◌+◌, ◌-◌, ◌≤◌, ◌<◌}
 use native.Mathlib.Omega.{arith}
 use mathlib.Core.Path.{◌≡◌, sym, ap, subst, ◌∙◌}
@@ -7,6 +8,7 @@ use mathlib.Core.Bool.{Bool, true, false, cond, or-true}
 use lib.ListN.{length, take}
 use lib.Dec.{T, eqb}
 use borrow.Author.Tests.{eq-eqb, ne_eqb}
+use Rattle.model.specs.declared.Refusal.{Refusal}
 use Rattle.instalments.specs.Machine.{Outcome, goes, enough}
 use Rattle.model.specs.Format.{lower, upper}
 use Rattle.model.specs.Table.{Pair, ◌⊑◌, Store, table_of, graph_of, with_graph, with_visited}
@@ -49,7 +51,7 @@ module _ (p : Pair) (s : Store) where
   rule_comes next n v e = rw (ne_eqb p.sub p.sup n, v) (ap (outcome_of (visit p s) p) (sym e))
 
 -- the outcome, case by case
-module _ (w : List ℕ) (p : Pair) (next : Next) (r : Step) (v : List ℕ) where
+module _ (w : List ℕ) (p : Pair) (next : Next) (r : Result Step Refusal) (v : List ℕ) where
   pub applied_as : (x : Next) → next ≡ x → Takes w (outcome_for (store_of w) p x) r v → Takes w (outcome_for (store_of w) p next) r v
   applied_as x e = subst (λ (y : Next). Takes w (outcome_for (store_of w) p y) r v) (sym e)
 
@@ -102,10 +104,10 @@ module _ (w : List ℕ) (h : T (well_formed w)) (some : 0 < length (pending_in w
       (lt_of sub (length (entries_of w)) (first (is_entry (entries_of w) sub) (is_entry (entries_of w) sup) k), lt_of sup (length (entries_of w)) (second (is_entry (entries_of w) sub) (is_entry (entries_of w) sup) k))
 
   -- the rule at the last pair
-  at_last : {r : Step} {v : List ℕ} (o : Outcome Store Pair Failure) → rule (store_of w) (sub ⊑ sup) ≡ o → Takes w o r v → Takes w (rule (store_of w) (last_pair w)) r v
+  at_last : {r : (Result Step Refusal)} {v : List ℕ} (o : Outcome Store Pair Failure) → rule (store_of w) (sub ⊑ sup) ≡ o → Takes w o r v → Takes w (rule (store_of w) (last_pair w)) r v
   at_last {r} {v} o e = subst (λ (x : Outcome Store Pair Failure). Takes w x r v) (sym (ap (rule (store_of w)) last_is ∙ e))
 
-  taken_off : (v : List ℕ) → Shows v (pending_to w (take (length (pending_in w) - 1) (pending_in w))) → Takes w (goes (store_of w) []) Went v
+  taken_off : (v : List ℕ) → Shows v (pending_to w (take (length (pending_in w) - 1) (pending_in w))) → Takes w (goes (store_of w) []) (Ok Went) v
   unfolding room_for
   taken_off v s =
       let n : length (before_last w) + 0 ≤ (store_of w).capacities.pending = omega (arith, before_length w, sound.pending.held) in
@@ -113,13 +115,13 @@ module _ (w : List ℕ) (h : T (well_formed w)) (some : 0 < length (pending_in w
       went w (store_of w) v [] e (subst (λ (l : List Pair). Shows v (table_of (store_of w) l)) (sym (append-nil (before_last w))) s)
 
   module _ (v : List ℕ) (s : Shows v (pending_to w (take (length (pending_in w) - 1) (pending_in w)))) where
-    pub step_equal : sub ≡ sup → Takes w (rule (store_of w) (last_pair w)) Went v
+    pub step_equal : sub ≡ sup → Takes w (rule (store_of w) (last_pair w)) (Ok Went) v
     step_equal e = at_last (goes (store_of w) []) (rule_equal (sub ⊑ sup) (store_of w) e) (taken_off v s)
 
-    pub step_visited : is_visited (store_of w) (sub ⊑ sup) ≡ true → Takes w (rule (store_of w) (last_pair w)) Went v
+    pub step_visited : is_visited (store_of w) (sub ⊑ sup) ≡ true → Takes w (rule (store_of w) (last_pair w)) (Ok Went) v
     step_visited e = at_last (goes (store_of w) []) (rule_visited (sub ⊑ sup) (store_of w) e) (taken_off v s)
 
-  pub step_applied : (next : Next) (r : Step) (v : List ℕ) → (sub ≡ sup → ⊥) → is_visited (store_of w) (sub ⊑ sup) ≡ false
+  pub step_applied : (next : Next) (r : Result Step Refusal) (v : List ℕ) → (sub ≡ sup → ⊥) → is_visited (store_of w) (sub ⊑ sup) ≡ false
       → Comes (graph_in w) (sub ⊑ sup) next (pair_rule (graph_in w) sub sup) → Takes w (outcome_for (store_of w) (sub ⊑ sup) next) r v
       → Takes w (rule (store_of w) (last_pair w)) r v
   step_applied next r v n e c k = at_last (outcome_for (store_of w) (sub ⊑ sup) next) (rule_comes (sub ⊑ sup) (store_of w) next n e c.means) k

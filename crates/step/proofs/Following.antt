@@ -21,7 +21,7 @@ use Rattle.constrain.specs.declared.Pairs.{Pairs}
 use Rattle.constrain.specs.declared.Pairs.TheVariants.{Nothing, One, Two, Fields}
 use Rattle.step.specs.Taken.{before_last, Midway, room_in, RoomFor}
 use Rattle.step.specs.Put.{count_in}
-use Rattle.step.specs.declared.Step.TheVariants.{Went, Refused}
+use Rattle.step.specs.declared.Step.TheVariants.{Went}
 use Rattle.step.proofs.Rooms.{fits, room_found}
 use Rattle.step.proofs.Taking.{Takes, refused, went}
 
@@ -97,7 +97,7 @@ module _ (w : List ℕ) (p : Pair) (ps : Pairs) (right : PairsRight (fields_in w
   unfolding room_for
   follow_room = ap (λ (n : ℕ). fitting (visit p (store_of w)) (length (before_last w) + n)) (sym many) ∙ sym (room p)
 
-  pub follow_refused : (r : Refusal) → found ≡ Err r → Takes w (goes (visit p (store_of w)) follows) (Refused r) w
+  pub follow_refused : (r : Refusal) → found ≡ Err r → Takes w (goes (visit p (store_of w)) follows) (Err r) w
   follow_refused r e = refused w (goes (visit p (store_of w)) follows) r (follow_room ∙ ap room_in e)
 
   module _ (e : found ≡ (Ok tt)) (v : List ℕ) (s : Midway v (table_of (visit p (store_of w)) (before_last w))) where
@@ -108,7 +108,7 @@ module _ (w : List ℕ) (p : Pair) (ps : Pairs) (right : PairsRight (fields_in w
         let goal : length (before_last w) + length follows ≤ (store_of w).capacities.pending = omega (arith, many, f.pending) in
         (shown_as s, (subst (λ (t : Table). PairsRight t.store.fields ps) (sym (seen s)) right, subst (λ (t : Table). length t.pending + length (pairs_in t.store.fields ps) ≤ t.store.capacities.pending) (sym (seen s)) goal))
 
-    pub follow_went : (u : List ℕ) → Shows u (pending_to v (pending_in v ++ reverse (pairs_in (fields_in v) ps))) → Takes w (goes (visit p (store_of w)) follows) Went u
+    pub follow_went : (u : List ℕ) → Shows u (pending_to v (pending_in v ++ reverse (pairs_in (fields_in v) ps))) → Takes w (goes (visit p (store_of w)) follows) (Ok Went) u
     unfolding visit with_visited
     follow_went u su =
         let k : Shows u (table_of (visit p (store_of w)) (before_last w ++ reverse follows)) = subst (λ (t : Table). Shows u (table_of t.store (t.pending ++ reverse (pairs_in t.store.fields ps)))) (seen s) su in

@@ -1,10 +1,12 @@
 -- The type of the field `__functor` under a lambda: the two lambdas made for it, and what the code comes to at each way out. Assumes nothing.
+use Rattle.std.specs.Prelude.{Err, Result}
 use Prim.Native.Nat.{ℕ, ◌+◌, ◌-◌, ◌≤◌, ◌<◌}
 use native.Mathlib.Omega.{arith}
 use mathlib.Core.Path.{◌≡◌, refl, sym, ap, subst, ◌∙◌}
 use mathlib.Core.List.{List, [], ◌∷◌, ◌++◌}
 use lib.ListN.{length, take}
 use lib.Dec.{T}
+use Rattle.model.specs.declared.Refusal.{Refusal}
 use Rattle.instalments.specs.Machine.{Outcome, goes}
 use Rattle.model.specs.Format.{lambda, entries_region}
 use Rattle.model.specs.Table.{Entry, Pair, ◌⊑◌, Store, Table, changed_to, with_graph, with_entries, with_visited}
@@ -26,7 +28,6 @@ use Rattle.constrain.specs.declared.Next.TheVariants.{Functor}
 use Rattle.step.specs.Taken.{Taken, taken, outcome_for}
 use Rattle.step.specs.Made.{settled}
 use Rattle.step.specs.declared.Step.{Step}
-use Rattle.step.specs.declared.Step.TheVariants.{Refused}
 use Rattle.step.proofs.Settling.{Gives, gives, made_none, made_settles, made_settled}
 
 -- the entries with a lambda more
@@ -65,7 +66,7 @@ module _ (w : List ℕ) (sub sup f param body : ℕ) (good : T (well_formed w)) 
   pub functor_held : old ≤ cap
   functor_held = omega (arith, (formed_shown w good).within.held.entries)
 
-  pub functor_full : cap - old < 2 → Gives (taken w (outcome_for (store_of w) (sub ⊑ sup) (Functor f param body))) (Refused (NoRoom entries_region)) w
+  pub functor_full : cap - old < 2 → Gives (taken w (outcome_for (store_of w) (sub ⊑ sup) (Functor f param body))) (Err (NoRoom entries_region)) w
   functor_full h =
       gives _ _ w
       (ap (λ (o : Outcome Store Pair Failure). taken w o) outcome
@@ -99,5 +100,5 @@ module _ (w : List ℕ) (sub sup f param body : ℕ) (good : T (well_formed w)) 
             (undo_exact (entries_of w) (with_both (entries_of w) param body sub) (negation_known_lem (entries_of w) (fields_in w) (store_of w).names (sound_table w good).store.good.entries) (both_undo (entries_of w) param body sub))
             ∙ ap (λ (o : Outcome Store Pair Failure). taken w o) (sym outcome)
 
-        pub functor_told : (x : Step) (z : List ℕ) → Gives (settled u old (sub ⊑ sup) (f ⊑ (old + 1))) x z → Gives (taken w (outcome_for (store_of w) (sub ⊑ sup) (Functor f param body))) x z
+        pub functor_told : (x : Result Step Refusal) (z : List ℕ) → Gives (settled u old (sub ⊑ sup) (f ⊑ (old + 1))) x z → Gives (taken w (outcome_for (store_of w) (sub ⊑ sup) (Functor f param body))) x z
         functor_told x z k = subst (λ (t : Taken). Gives t x z) same k

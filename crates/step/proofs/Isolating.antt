@@ -1,5 +1,5 @@
 -- An inter's chosen side under sup or the negation of the other: what the code knows, and what it comes to at each way out. Assumes nothing.
-use Rattle.std.specs.Prelude.{None, Option, Some}
+use Rattle.std.specs.Prelude.{None, Option, Some, Err, Result}
 use Prim.Native.Nat.{ℕ, ◌≤◌, ◌<◌}
 use native.Mathlib.Omega.{arith}
 use mathlib.Core.Path.{◌≡◌, refl, sym, ap, subst, ◌∙◌}
@@ -7,6 +7,7 @@ use mathlib.Core.List.{List, [], ◌∷◌}
 use mathlib.Core.Logic.{⊎_elim}
 use lib.ListN.{length, take}
 use lib.Dec.{T}
+use Rattle.model.specs.declared.Refusal.{Refusal}
 use Rattle.instalments.specs.Machine.{Outcome, goes}
 use Rattle.model.specs.Format.{entries_region}
 use Rattle.model.specs.Table.{Entry, Pair, ◌⊑◌, Store, changed_to, with_graph, with_entries, with_visited}
@@ -30,7 +31,6 @@ use Rattle.constrain.specs.declared.Next.TheVariants.{Isolate}
 use Rattle.step.specs.Taken.{Taken, taken, outcome_for}
 use Rattle.step.specs.Made.{TargetIn, settled}
 use Rattle.step.specs.declared.Step.{Step}
-use Rattle.step.specs.declared.Step.TheVariants.{Refused}
 use Rattle.step.proofs.Settling.{Gives, gives, made_none, made_settles, made_settled}
 
 module _ (w : List ℕ) (sub sup c d : ℕ) (good : T (well_formed w)) (below-sup : sup < length (entries_of w)) (below : d < length (entries_of w)) where
@@ -68,13 +68,13 @@ module _ (w : List ℕ) (sub sup c d : ℕ) (good : T (well_formed w)) (below-su
       isolate_undo = (shown left.1.0, omega (arith, ap length (seen_entries (table w) v left.0 left.1.0), left.1.1.longer))
 
       pub isolate_full : (u : List ℕ) → Shows u (entries_to v (undone old (entries_of v)))
-          → Gives (taken w (outcome_for (store_of w) (sub ⊑ sup) (Isolate c d))) (Refused (NoRoom entries_region)) u
+          → Gives (taken w (outcome_for (store_of w) (sub ⊑ sup) (Isolate c d))) (Err (NoRoom entries_region)) u
       isolate_full u su =
           let back : u ≡ w = words_back w v u left.0 old good left.1.0 left.1.1.undo e su in
           gives _ _ u
           (ap (λ (o : Outcome Store Pair Failure). taken w o) outcome
           ∙ made_none w good (target sup (make_neg (entries_of w) d)).after (sub ⊑ sup) (c ⊑ (target sup (make_neg (entries_of w) d)).number) lacking
-          ∙ ap (λ (x : List ℕ). record { says = Refused (NoRoom entries_region); words = x }) (sym back))
+          ∙ ap (λ (x : List ℕ). record { says = Err (NoRoom entries_region); words = x }) (sym back))
 
     -- all is made
     module _ (k : ℕ) (f : a ≡ Some k) where
@@ -104,5 +104,5 @@ module _ (w : List ℕ) (sub sup c d : ℕ) (good : T (well_formed w)) (below-su
           (undo_target (entries_of w) (fields_in w) (store_of w).names sup d sound.good.entries below-sup below)
           ∙ ap (λ (o : Outcome Store Pair Failure). taken w o) (sym outcome)
 
-      pub isolate_told : (x : Step) (u : List ℕ) → Gives (settled v old (sub ⊑ sup) (c ⊑ k)) x u → Gives (taken w (outcome_for (store_of w) (sub ⊑ sup) (Isolate c d))) x u
+      pub isolate_told : (x : Result Step Refusal) (u : List ℕ) → Gives (settled v old (sub ⊑ sup) (c ⊑ k)) x u → Gives (taken w (outcome_for (store_of w) (sub ⊑ sup) (Isolate c d))) x u
       isolate_told x u h = subst (λ (t : Taken). Gives t x u) same h

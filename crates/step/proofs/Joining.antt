@@ -18,7 +18,7 @@ use Rattle.laws.proofs.Effects.{add_bounds}
 use Rattle.image.specs.Shown.{Shows, Shown, store_of, graph_in, entries_of, bounds_all, visited_in, pending_in, entries_to, bounds_to, pending_to}
 use Rattle.image.proofs.Laying.{seen, shown, shown_as}
 use Rattle.step.specs.Taken.{before_last, Midway, room_in, RoomFor}
-use Rattle.step.specs.declared.Step.TheVariants.{Went, Refused}
+use Rattle.step.specs.declared.Step.TheVariants.{Went}
 use Rattle.step.proofs.Rooms.{fits, room_found, visited_room, pass_room}
 use Rattle.step.proofs.Taking.{Takes, refused, went}
 
@@ -90,11 +90,11 @@ module _ (w : List ℕ) (after : Store) (v other more : ℕ) (found : Result (Un
   room_is p f =
       ap (λ (n : ℕ). fitting (visit p after) (length (before_last w) + n)) (length-map (bounds_in after.bounds v other) f ∙ j.counted) ∙ sym (j.room p)
 
-  pub join_refused : (p : Pair) (f : ℕ → Pair) (x : Refusal) → found ≡ Err x → Takes w (goes (visit p after) (map f (bounds_in after.bounds v other))) (Refused x) w
+  pub join_refused : (p : Pair) (f : ℕ → Pair) (x : Refusal) → found ≡ Err x → Takes w (goes (visit p after) (map f (bounds_in after.bounds v other))) (Err x) w
   join_refused p f x e = refused w (goes (visit p after) (map f (bounds_in after.bounds v other))) x (room_is p f ∙ ap room_in e)
 
   pub joined : (p : Pair) (f : ℕ → Pair) → found ≡ (Ok tt) → (u x : List ℕ) → Midway u (table_of (visit p after) (before_last w))
-      → Shows x (pending_to u (pending_in u ++ reverse (map f (bounds_in (bounds_all u) v other)))) → Takes w (goes (visit p after) (map f (bounds_in after.bounds v other))) Went x
+      → Shows x (pending_to u (pending_in u ++ reverse (map f (bounds_in (bounds_all u) v other)))) → Takes w (goes (visit p after) (map f (bounds_in after.bounds v other))) (Ok Went) x
   unfolding visit with_visited
   joined p f e u x su sx =
       let a : Shows x (table_of (visit p after) (before_last w ++ reverse (map f (bounds_in after.bounds v other)))) =
@@ -109,14 +109,14 @@ unfolding outcome_of join_bounds changed_to with_graph visit with_visited with_b
 join_outcome w p v side b = refl
 
 module _ (w : List ℕ) (p : Pair) (v side b more : ℕ) (found : Result (Unit {0}) Refusal) (j : Joins w (with_bound w v side b) v (other_side side) more found) where
-  pub bound_refused : (x : Refusal) → found ≡ Err x → Takes w (outcome_of (visit p (store_of w)) p (join_bounds (graph_in w) v side b)) (Refused x) w
+  pub bound_refused : (x : Refusal) → found ≡ Err x → Takes w (outcome_of (visit p (store_of w)) p (join_bounds (graph_in w) v side b)) (Err x) w
   bound_refused x e =
-      subst (λ (o : Outcome Store Pair Failure). Takes w o (Refused x) w) (join_outcome w p v side b)
+      subst (λ (o : Outcome Store Pair Failure). Takes w o (Err x) w) (join_outcome w p v side b)
       (join_refused w _ v (other_side side) more found j p (bound_pair (other_side side) b) x e)
 
   pub bound_joined : found ≡ (Ok tt) → (u x : List ℕ) → Midway u (table_of (visit p (with_bound w v side b)) (before_last w))
       → Shows x (pending_to u (pending_in u ++ reverse (map (bound_pair (other_side side) b) (bounds_in (bounds_all u) v (other_side side)))))
-      → Takes w (outcome_of (visit p (store_of w)) p (join_bounds (graph_in w) v side b)) Went x
+      → Takes w (outcome_of (visit p (store_of w)) p (join_bounds (graph_in w) v side b)) (Ok Went) x
   bound_joined e u x su sx =
-      subst (λ (o : Outcome Store Pair Failure). Takes w o Went x) (join_outcome w p v side b)
+      subst (λ (o : Outcome Store Pair Failure). Takes w o (Ok Went) x) (join_outcome w p v side b)
       (joined w _ v (other_side side) more found j p (bound_pair (other_side side) b) e u x su sx)

@@ -1,4 +1,5 @@
 -- Steps that make entries: how deep these go, what a step comes to that has made them, and that undoing gives the words found. Assumes nothing.
+use Rattle.std.specs.Prelude.{Ok, Err, Result}
 use Prim.Native.Nat.{ℕ, ◌+◌, ◌-◌, ◌≤◌, ◌<◌}
 use native.Mathlib.Omega.{arith}
 use mathlib.Core.Path.{◌≡◌, refl, sym, ap, subst, ◌∙◌}
@@ -31,7 +32,7 @@ use Rattle.type_table.proofs.Replies.{some_deep}
 use Rattle.step.specs.Taken.{Taken, taken_by, taken, before_last, Midway}
 use Rattle.step.specs.Made.{settled}
 use Rattle.step.specs.declared.Step.{Step}
-use Rattle.step.specs.declared.Step.TheVariants.{Went, Refused}
+use Rattle.step.specs.declared.Step.TheVariants.{Went}
 
 -- the entries before i are not too deep
 abbrev pub ShallowTo : ℕ → List Entry → Type 0
@@ -55,10 +56,10 @@ pub deep_hit : (es : List Entry) (i n x : ℕ) → n ≡ length es → i < n →
 deep_hit es i n x e lt f h = some_deep es i (omega arith) (omega arith)
 
 -- a step answers and leaves what it gives to
-abbrev pub Gives : Taken → Step → List ℕ → Type 0
+abbrev pub Gives : Taken → Result Step Refusal → List ℕ → Type 0
 Gives t r v = (r ≡ t.says) × (v ≡ t.words)
 
-pub gives : (t : Taken) (r : Step) (v : List ℕ) → t ≡ record { says = r; words = v } → Gives t r v
+pub gives : (t : Taken) (r : Result Step Refusal) (v : List ℕ) → t ≡ record { says = r; words = v } → Gives t r v
 gives t r v e = (ap (λ (x : Taken). x.says) (sym e), ap (λ (x : Taken). x.words) (sym e))
 
 -- what `settled` is, by the table
@@ -68,7 +69,7 @@ settled_in t before old p q =
 
 module _ (t : Table) (before : List Pair) (old : ℕ) (p q : Pair) (k : Within t) (room : length before + 1 ≤ t.store.capacities.pending) where
   settled_full : t.store.capacities.visited ≤ length t.store.visited
-      → settled_in t before old p q ≡ record { says = Refused (NoRoom visited_region); words = words (entries_in t (undone old t.store.entries)) }
+      → settled_in t before old p q ≡ record { says = Err (NoRoom visited_region); words = words (entries_in t (undone old t.store.entries)) }
   unfolding taken_by fitting first_lacking deep_enough visit with_visited
   settled_full h =
       let n : length (t.store.visited ++ (p ∷ [])) ≡ length t.store.visited + 1 = length-append t.store.visited (p ∷ []) in
@@ -88,12 +89,12 @@ module _ (t : Table) (before : List Pair) (old : ℕ) (p q : Pair) (k : Within t
     by_room r e = ap (λ (x : Room Refusal). taken_by x (words (entries_in t (undone old t.store.entries))) before (goes (visit p t.store) (q ∷ []))) (fitted ∙ e)
 
     settled_deep : too_deep t.store.entries ≡ true
-        → settled_in t before old p q ≡ record { says = Refused TooDeep; words = words (entries_in t (undone old t.store.entries)) }
+        → settled_in t before old p q ≡ record { says = Err TooDeep; words = words (entries_in t (undone old t.store.entries)) }
     unfolding taken_by
     settled_deep e = by_room (lacks TooDeep) (rw e)
 
     settled_well : too_deep t.store.entries ≡ false
-        → settled_in t before old p q ≡ record { says = Went; words = words (table_of (visit p t.store) (before ++ (q ∷ []))) }
+        → settled_in t before old p q ≡ record { says = Ok Went; words = words (table_of (visit p t.store) (before ++ (q ∷ []))) }
     unfolding taken_by
     settled_well e = by_room enough (rw e)
 
@@ -113,27 +114,27 @@ module _ (w : List ℕ) (old : ℕ) (p q : Pair) (s : Shown w) (some : 0 < lengt
   same = refl
 
   pub settle_full : (number cap : ℕ) → number ≡ length (visited_in w) → cap ≡ (store_of w).capacities.visited → cap ≤ number
-      → (u : List ℕ) → Shows u (entries_to w (undone old (entries_of w))) → Gives (settled w old p q) (Refused (NoRoom visited_region)) u
+      → (u : List ℕ) → Shows u (entries_to w (undone old (entries_of w))) → Gives (settled w old p q) (Err (NoRoom visited_region)) u
   settle_full number cap n c h u su =
-      gives _ _ u (same ∙ settled_full (table w) (before_last w) old p q s.within (room w s some) (omega arith) ∙ ap (λ (x : List ℕ). record { says = Refused (NoRoom visited_region); words = x }) (sym su.is))
+      gives _ _ u (same ∙ settled_full (table w) (before_last w) old p q s.within (room w s some) (omega arith) ∙ ap (λ (x : List ℕ). record { says = Err (NoRoom visited_region); words = x }) (sym su.is))
 
   module _ (number cap : ℕ) (n : number ≡ length (visited_in w)) (c : cap ≡ (store_of w).capacities.visited) (h : number < cap) where
     pub settle_deep : (deep : Bool) → deep ≡ too_deep (entries_of w) → deep ≡ true
-        → (u : List ℕ) → Shows u (entries_to w (undone old (entries_of w))) → Gives (settled w old p q) (Refused TooDeep) u
+        → (u : List ℕ) → Shows u (entries_to w (undone old (entries_of w))) → Gives (settled w old p q) (Err TooDeep) u
     settle_deep deep e d u su =
-        gives _ _ u (same ∙ settled_deep (table w) (before_last w) old p q s.within (room w s some) (omega arith) (sym e ∙ d) ∙ ap (λ (x : List ℕ). record { says = Refused TooDeep; words = x }) (sym su.is))
+        gives _ _ u (same ∙ settled_deep (table w) (before_last w) old p q s.within (room w s some) (omega arith) (sym e ∙ d) ∙ ap (λ (x : List ℕ). record { says = Err TooDeep; words = x }) (sym su.is))
 
     pub settle_went : (deep : Bool) → deep ≡ too_deep (entries_of w) → deep ≡ false
-        → (v : List ℕ) → Midway v (table_of (visit p (store_of w)) (before_last w)) → (u : List ℕ) → Shows u (pending_to v (pending_in v ++ (q ∷ []))) → Gives (settled w old p q) Went u
+        → (v : List ℕ) → Midway v (table_of (visit p (store_of w)) (before_last w)) → (u : List ℕ) → Shows u (pending_to v (pending_in v ++ (q ∷ []))) → Gives (settled w old p q) (Ok Went) u
     settle_went deep e d v sv u su =
         let a : Shows u (table_of (visit p (store_of w)) (before_last w ++ (q ∷ []))) = subst (λ (t : Table). Shows u (table_of t.store (t.pending ++ (q ∷ [])))) (seen sv) su in
-        gives _ _ u (same ∙ settled_well (table w) (before_last w) old p q s.within (room w s some) (omega arith) (sym e ∙ d) ∙ ap (λ (x : List ℕ). record { says = Went; words = x }) (sym a.is))
+        gives _ _ u (same ∙ settled_well (table w) (before_last w) old p q s.within (room w s some) (omega arith) (sym e ∙ d) ∙ ap (λ (x : List ℕ). record { says = Ok Went; words = x }) (sym a.is))
 
 -- entries us were made in a well formed image w
 module _ (w : List ℕ) (good : T (well_formed w)) (us : List Entry) (p : Pair) where
   -- "5 before 6": there is no room for them, with every word as found
   pub made_none : (q : Pair) → (store_of w).capacities.entries < length us
-      → taken w (goes (visit p (with_entries us (store_of w))) (q ∷ [])) ≡ record { says = Refused (NoRoom entries_region); words = w }
+      → taken w (goes (visit p (with_entries us (store_of w))) (q ∷ [])) ≡ record { says = Err (NoRoom entries_region); words = w }
   unfolding taken_by room_for fitting first_lacking deep_enough visit with_visited with_entries
   made_none q h = rw (lt-ltb (store_of w).capacities.entries (length us) h)
 

@@ -14,7 +14,7 @@ use Rattle.image.specs.Records.{pending_at}
 use Rattle.constrain.specs.Next.{effect_of}
 use Rattle.constrain.specs.declared.Next.{Next}
 use Rattle.step.specs.declared.Step.{Step}
-use Rattle.step.specs.declared.Step.TheVariants.{Went, Failed, Refused}
+use Rattle.step.specs.declared.Step.TheVariants.{Went, Failed}
 
 -- "A step takes one pair off the end of pending": that pair, and what stands before it
 abbrev pub last_pair : List ℕ → Pair
@@ -41,14 +41,14 @@ RoomForBound w repeated more r = (v side b : ℕ) → repeated ≡ repeats (boun
 
 -- what it answers, and the words after
 pub record Taken : Type 0 where
-  pub says : Step
+  pub says : Result Step Refusal
   pub words : List ℕ
 
 -- refused, with these words as found; or the failure, with pending emptied; or its consequences on pending, last first
 unfoldable pub taken_by : Room Refusal → List ℕ → List Pair → Outcome Store Pair Failure → Taken
-taken_by (lacks r) w before o = record { says = Refused r; words = w }
-taken_by enough w before (fails f u) = record { says = Failed f; words = words (table_of u []) }
-taken_by enough w before (goes u qs) = record { says = Went; words = words (table_of u (before ++ reverse qs)) }
+taken_by (lacks r) w before o = record { says = Err r; words = w }
+taken_by enough w before (fails f u) = record { says = Ok (Failed f); words = words (table_of u []) }
+taken_by enough w before (goes u qs) = record { says = Ok Went; words = words (table_of u (before ++ reverse qs)) }
 
 abbrev pub taken : List ℕ → Outcome Store Pair Failure → Taken
 taken w o = taken_by (room_for (length (before_last w)) o) w (before_last w) o

@@ -34,10 +34,8 @@ fn put_dynamic_pair(image: &mut [u32], a: Option<u32>, b: Option<u32>)
     requires b_len_bound { length (pending_in image.old) + length (dynamic_pairs a b) ≤ (store_of image.old).capacities.pending }
     ensures { Midway image.new (pending_to image.old (pending_in image.old ++ dynamic_pairs a b)) }
 {
-    if let Some(m) = a {
-        if let Some(n) = b {
-            writes::put_consequence(image, m, n);
-        }
+    if let (Some(m), Some(n)) = (a, b) {
+        writes::put_consequence(image, m, n);
     }
 }
 
@@ -49,12 +47,9 @@ fn put_field_pairs(image: &mut [u32], a: Attrset, b: Attrset)
     requires b_len_bound { length (pending_in image.old) + length (field_pairs (fields_in image.old) a b) ≤ (store_of image.old).capacities.pending }
     ensures { Midway image.new (pending_to image.old (pending_in image.old ++ reverse (field_pairs (fields_in image.old) a b))) }
 {
-    let sub_dynamic = a.dynamic;
-    let sup_dynamic = b.dynamic;
-    put_dynamic_pair(image, sub_dynamic, sup_dynamic);
-    let mut j = b.first + b.count;
-    while b.first < j {
-        j -= 1;
+    put_dynamic_pair(image, a.dynamic, b.dynamic);
+    let end = b.first + b.count;
+    for j in (b.first..end).rev() {
         put_field_pair(image, a, j);
     }
 }
@@ -108,9 +103,8 @@ pub fn put_bound_pairs(image: &mut [u32], v: u32, side: u32, b: u32)
     requires side_len_bound { length (pending_in image.old) + length (bounds_in (bounds_all image.old) v side) ≤ (store_of image.old).capacities.pending }
     ensures { Midway image.new (pending_to image.old (pending_in image.old ++ reverse (map (bound_pair side b) (bounds_in (bounds_all image.old) v side)))) }
 {
-    let mut i = image::bounds_count(image);
-    while 0 < i {
-        i -= 1;
+    let n = image::bounds_count(image);
+    for i in (0..n).rev() {
         if storage::belongs(image, i, v, side) {
             let x = image::bound_word(image, i, image::format::BOUND_WORD);
             put_bound_pair(image, side, x, b);

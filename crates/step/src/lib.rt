@@ -25,19 +25,11 @@ ghost use Rattle.step.specs.Made.{TargetIn, settled};
 use constrain::{Next, Pairs};
 use model::{Failure, Refusal};
 
-// What a step comes to.
-#[derive(Clone, Copy)]
+// What a step comes to that is not refused.
+#[derive(Clone, Copy, Debug, PartialEq, Eq)]
 pub enum Step {
     Went,
     Failed(Failure),
-    Refused(Refusal),
-}
-
-// Whether a step has room.
-#[derive(Clone, Copy)]
-pub enum StepRoom {
-    Enough,
-    Lacks(Refusal),
 }
 
 // Records the pair as visited and takes the last one off pending.
@@ -100,38 +92,32 @@ fn fill_break(image: &mut [u32], failure: Failure)
 }
 
 // Fails: the visited pair is kept, pending is emptied.
-fn fail(image: &mut [u32], sub: u32, sup: u32, failure: Failure) -> Step
+fn fail(image: &mut [u32], sub: u32, sup: u32, failure: Failure) -> Result<Step, Refusal>
     requires t { T (well_formed image.old) }
     requires nonzero { 0 < length (pending_in image.old) }
     ensures value { result ≡ (taken image.old (failing (visit (sub ⊑ sup) (store_of image.old)) failure)).says }
     ensures image_after { image.new ≡ (taken image.old (failing (visit (sub ⊑ sup) (store_of image.old)) failure)).words }
 {
-    let room = room_for(image, 0);
-    if let Err(r) = room {
-        return Step::Refused(r);
-    }
+    room_for(image, 0)?;
     writes::push_visited(image, sub, sup);
     writes::end_question(image);
     fill_break(image, failure);
-    Step::Failed(failure)
+    Ok(Step::Failed(failure))
 }
 
 // Goes on with consequences that need nothing made.
-fn follow(image: &mut [u32], sub: u32, sup: u32, pairs: Pairs) -> Step
+fn follow(image: &mut [u32], sub: u32, sup: u32, pairs: Pairs) -> Result<Step, Refusal>
     requires t { T (well_formed image.old) }
     requires nonzero { 0 < length (pending_in image.old) }
     requires pairs_right { PairsRight (fields_in image.old) pairs }
     ensures value { result ≡ (taken image.old (goes (visit (sub ⊑ sup) (store_of image.old)) (pairs_in (fields_in image.old) pairs))).says }
     ensures image_after { image.new ≡ (taken image.old (goes (visit (sub ⊑ sup) (store_of image.old)) (pairs_in (fields_in image.old) pairs))).words }
 {
-    let room = room_for(image, consequences::count_of(pairs));
-    if let Err(r) = room {
-        return Step::Refused(r);
-    }
+    room_for(image, consequences::count_of(pairs))?;
     advance(image, sub, sup);
     consequences::put_pairs(image, pairs);
     writes::end_if_done(image);
-    Step::Went
+    Ok(Step::Went)
 }
 
 // Makes sup or the negation of d, entry by entry, as far as there is room.
@@ -142,9 +128,7 @@ fn make_target(image: &mut [u32], sup: u32, d: u32) -> Option<u32>
     requires sup_in_bounds { sup < length (entries_of image.old) }
     ensures { TargetIn (table image.old) sup d result image.new }
 {
-    let Some(n) = type_table::negate(image, d) else {
-        return None;
-    };
+    let n = type_table::negate(image, d)?;
     if disjoint::union_contains_member(image, sup, n) {
         return Some(sup);
     }
@@ -175,7 +159,14 @@ fn is_deep(image: &[u32], old: u32) -> bool
 }
 
 // Goes on with one consequence, entries from number old on made for it: undoes them where the step lacks room or goes too deep.
-fn settle(image: &mut [u32], old: u32, sub: u32, sup: u32, c: u32, target: u32) -> Step
+fn settle(
+    image: &mut [u32],
+    old: u32,
+    sub: u32,
+    sup: u32,
+    c: u32,
+    target: u32,
+) -> Result<Step, Refusal>
     requires shown { Shown image.old }
     requires nonzero { 0 < length (pending_in image.old) }
     requires in_bounds { old ≤ length (entries_of image.old) }
@@ -185,20 +176,20 @@ fn settle(image: &mut [u32], old: u32, sub: u32, sup: u32, c: u32, target: u32) 
 {
     if image::visited_capacity(image) <= image::visited_count(image) {
         type_table::undo(image, old);
-        return Step::Refused(Refusal::NoRoom(image::format::VISITED));
+        return Err(Refusal::NoRoom(image::format::VISITED));
     }
     if is_deep(image, old) {
         type_table::undo(image, old);
-        return Step::Refused(Refusal::TooDeep);
+        return Err(Refusal::TooDeep);
     }
     advance(image, sub, sup);
     writes::put_consequence(image, c, target);
     writes::end_if_done(image);
-    Step::Went
+    Ok(Step::Went)
 }
 
 // An inter's chosen side c, under sup or the negation of the other side d.
-fn follow_isolated(image: &mut [u32], sub: u32, sup: u32, c: u32, d: u32) -> Step
+fn follow_isolated(image: &mut [u32], sub: u32, sup: u32, c: u32, d: u32) -> Result<Step, Refusal>
     requires t { T (well_formed image.old) }
     requires nonzero { 0 < length (pending_in image.old) }
     requires sup_in_bounds { sup < length (entries_of image.old) }
@@ -209,13 +200,20 @@ fn follow_isolated(image: &mut [u32], sub: u32, sup: u32, c: u32, d: u32) -> Ste
     let old = image::entries_count(image);
     let Some(target) = make_target(image, sup, d) else {
         type_table::undo(image, old);
-        return Step::Refused(Refusal::NoRoom(image::format::ENTRIES)); // however deep it would go
+        return Err(Refusal::NoRoom(image::format::ENTRIES)); // however deep it would go
     };
     settle(image, old, sub, sup, c, target)
 }
 
 // The type f of the field `__functor`, under a lambda from sub to lambda(param, body).
-fn follow_functor(image: &mut [u32], sub: u32, sup: u32, f: u32, param: u32, body: u32) -> Step
+fn follow_functor(
+    image: &mut [u32],
+    sub: u32,
+    sup: u32,
+    f: u32,
+    param: u32,
+    body: u32,
+) -> Result<Step, Refusal>
     requires t { T (well_formed image.old) }
     requires nonzero { 0 < length (pending_in image.old) }
     ensures value { result ≡ (taken image.old (outcome_for (store_of image.old) (sub ⊑ sup) (Functor f param body))).says }
@@ -224,7 +222,7 @@ fn follow_functor(image: &mut [u32], sub: u32, sup: u32, f: u32, param: u32, bod
     let old = image::entries_count(image);
     let needed = 2;
     if image::entries_capacity(image) - old < needed {
-        return Step::Refused(Refusal::NoRoom(image::format::ENTRIES));
+        return Err(Refusal::NoRoom(image::format::ENTRIES));
     }
     writes::push_entry(image, image::format::LAMBDA, param, body, 0, 0, 1);
     writes::push_entry(image, image::format::LAMBDA, sub, old, 0, 0, 1);
@@ -277,7 +275,14 @@ fn pass_mark(image: &mut [u32], v: u32, side: u32, b: u32)
 }
 
 // Goes on with b among the bounds of v on a side, and the pairs of b with v's bounds on the other.
-fn join_bounds(image: &mut [u32], sub: u32, sup: u32, v: u32, side: u32, b: u32) -> Step
+fn join_bounds(
+    image: &mut [u32],
+    sub: u32,
+    sup: u32,
+    v: u32,
+    side: u32,
+    b: u32,
+) -> Result<Step, Refusal>
     requires t { T (well_formed image.old) }
     requires nonzero { 0 < length (pending_in image.old) }
     requires v_in_bounds { v < length (entries_of image.old) }
@@ -290,20 +295,17 @@ fn join_bounds(image: &mut [u32], sub: u32, sup: u32, v: u32, side: u32, b: u32)
     let n = image::bounds_count(image);
     let repeated = storage::repeats_bound(image, n, v, side, b);
     let more = storage::count_bounds(image, n, v, other);
-    let room = room_for_bound(image, repeated, more);
-    if let Err(r) = room {
-        return Step::Refused(r);
-    }
+    room_for_bound(image, repeated, more)?;
     add_bound(image, repeated, v, side, b);
     pass_mark(image, v, side, b);
     advance(image, sub, sup);
     consequences::put_bound_pairs(image, v, other, b);
     writes::end_if_done(image);
-    Step::Went
+    Ok(Step::Went)
 }
 
 // Applies what the pair comes to.
-fn apply(image: &mut [u32], sub: u32, sup: u32, next: Next) -> Step
+fn apply(image: &mut [u32], sub: u32, sup: u32, next: Next) -> Result<Step, Refusal>
     requires t { T (well_formed image.old) }
     requires nonzero { 0 < length (pending_in image.old) }
     requires sub_in_bounds { sub < length (entries_of image.old) }
@@ -324,7 +326,7 @@ fn apply(image: &mut [u32], sub: u32, sup: u32, next: Next) -> Step
 }
 
 // Takes one step of a question.
-pub fn take_step(image: &mut [u32]) -> Step
+pub fn take_step(image: &mut [u32]) -> Result<Step, Refusal>
     requires t { T (well_formed image.old) }
     requires nonzero { 0 < length (pending_in image.old) }
     ensures value { result ≡ (taken image.old (rule (store_of image.old) (last_pair image.old))).says }
@@ -335,11 +337,11 @@ pub fn take_step(image: &mut [u32]) -> Step
     let sup = image::pending_word(image, last, image::format::PENDING_SUP_WORD);
     if sub == sup {
         skip(image);
-        return Step::Went;
+        return Ok(Step::Went);
     }
     if image::visited_has(image, sub, sup) {
         skip(image);
-        return Step::Went;
+        return Ok(Step::Went);
     }
     let next = constrain::constrain(image, sub, sup);
     apply(image, sub, sup, next)

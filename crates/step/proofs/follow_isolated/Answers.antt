@@ -28,18 +28,18 @@ pub returns-in_default-clause-image_after : goal.returns-in_default-clause-image
 returns-in_default-clause-image_after c = (isolate_full _ c.args.sub _ c.args.c _ c.requires.t c.requires.sup_in_bounds c.requires.d_in_bounds _ c.entries_count-old.ensures _ _ c.make_target.ensures c.in_default.is _ c.undo.ensures).1
 
 pub settle-requires-clause-shown : goal.settle-requires-clause-shown
-settle-requires-clause-shown c = (isolate_settle _ c.args.sub _ c.args.c _ c.requires.t c.requires.sup_in_bounds c.requires.d_in_bounds _ c.entries_count-old.ensures _ _ c.make_target.ensures _ c.in-Number.is c.requires.nonzero).0
+settle-requires-clause-shown c = (isolate_settle _ c.args.sub _ c.args.c _ c.requires.t c.requires.sup_in_bounds c.requires.d_in_bounds _ c.entries_count-old.ensures _ _ c.make_target.ensures _ c.in-Some.is c.requires.nonzero).0
 
 pub settle-requires-clause-nonzero : goal.settle-requires-clause-nonzero
-settle-requires-clause-nonzero c = (isolate_settle _ c.args.sub _ c.args.c _ c.requires.t c.requires.sup_in_bounds c.requires.d_in_bounds _ c.entries_count-old.ensures _ _ c.make_target.ensures _ c.in-Number.is c.requires.nonzero).1.0
+settle-requires-clause-nonzero c = (isolate_settle _ c.args.sub _ c.args.c _ c.requires.t c.requires.sup_in_bounds c.requires.d_in_bounds _ c.entries_count-old.ensures _ _ c.make_target.ensures _ c.in-Some.is c.requires.nonzero).1.0
 
 pub settle-requires-clause-in_bounds : goal.settle-requires-clause-in_bounds
-settle-requires-clause-in_bounds c = (isolate_settle _ c.args.sub _ c.args.c _ c.requires.t c.requires.sup_in_bounds c.requires.d_in_bounds _ c.entries_count-old.ensures _ _ c.make_target.ensures _ c.in-Number.is c.requires.nonzero).1.1.0
+settle-requires-clause-in_bounds c = (isolate_settle _ c.args.sub _ c.args.c _ c.requires.t c.requires.sup_in_bounds c.requires.d_in_bounds _ c.entries_count-old.ensures _ _ c.make_target.ensures _ c.in-Some.is c.requires.nonzero).1.1.0
 
 pub settle-requires-clause-shallow : goal.settle-requires-clause-shallow
-settle-requires-clause-shallow c = (isolate_settle _ c.args.sub _ c.args.c _ c.requires.t c.requires.sup_in_bounds c.requires.d_in_bounds _ c.entries_count-old.ensures _ _ c.make_target.ensures _ c.in-Number.is c.requires.nonzero).1.1.1
+settle-requires-clause-shallow c = (isolate_settle _ c.args.sub _ c.args.c _ c.requires.t c.requires.sup_in_bounds c.requires.d_in_bounds _ c.entries_count-old.ensures _ _ c.make_target.ensures _ c.in-Some.is c.requires.nonzero).1.1.1
 
 pub returns : goal.returns
 returns c =
-    let k = isolate_told _ c.args.sub _ c.args.c _ c.requires.t c.requires.sup_in_bounds c.requires.d_in_bounds _ c.entries_count-old.ensures _ _ c.make_target.ensures _ c.in-Number.is _ _ (c.settle.ensures.value, c.settle.ensures.image_after) in
+    let k = isolate_told _ c.args.sub _ c.args.c _ c.requires.t c.requires.sup_in_bounds c.requires.d_in_bounds _ c.entries_count-old.ensures _ _ c.make_target.ensures _ c.in-Some.is _ _ (c.settle.ensures.value, c.settle.ensures.image_after) in
     record { value = k.0; image_after = k.1 }

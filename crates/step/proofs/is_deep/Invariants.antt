@@ -1,4 +1,4 @@
--- What the loops of `is_deep` keep, and why they end.
+-- What the loops of `is_deep` keep.
 use Prim.Native.Nat.{◌≤◌, ◌-◌}
 use lib.ListN.{length}
 use Rattle.image.specs.Shown.{entries_of}
@@ -7,6 +7,3 @@ use Rattle.step.proofs.is_deep.Given as goal
 
 abbrev pub invariant-loop-i : goal.invariant-loop-i
 invariant-loop-i l = (l.i ≤ length (entries_of l.image)) × ShallowTo l.i (entries_of l.image)
-
-abbrev pub decreases-loop-i : goal.decreases-loop-i
-decreases-loop-i l = length (entries_of l.image) - l.i

@@ -3,50 +3,50 @@ use native.Mathlib.Omega.{arith}
 use Rattle.step.proofs.Targets.{full_negation, target_asks, target_old, target_laid, target_below, target_number, sup_low, negation_low, target_none, target_room, target_new}
 use Rattle.step.proofs.make_target.Goals as goal
 
-pub returns-in_default : goal.returns-in_default
-returns-in_default c = full_negation _ _ _ c.requires.negatable c.requires.good c.requires.shallow c.requires.sup_in_bounds _ _ c.negate.ensures c.in_default.is
+pub returns-in_err-n : goal.returns-in_err-n
+returns-in_err-n c = rw c.from_residual.ensures (full_negation _ _ _ c.requires.negatable c.requires.good c.requires.shallow c.requires.sup_in_bounds _ _ c.negate.ensures c.in_err-n.was)
 
 pub union_contains_member-requires-clause-laid : goal.union_contains_member-requires-clause-laid
-union_contains_member-requires-clause-laid c = (target_asks _ _ _ c.requires.negatable c.requires.good c.requires.shallow c.requires.sup_in_bounds _ _ c.negate.ensures _ c.in-Number.is).0
+union_contains_member-requires-clause-laid c = (target_asks _ _ _ c.requires.negatable c.requires.good c.requires.shallow c.requires.sup_in_bounds _ _ c.negate.ensures _ c.in_ok-n.was).0
 
 pub union_contains_member-requires-clause-good : goal.union_contains_member-requires-clause-good
-union_contains_member-requires-clause-good c = (target_asks _ _ _ c.requires.negatable c.requires.good c.requires.shallow c.requires.sup_in_bounds _ _ c.negate.ensures _ c.in-Number.is).1.0
+union_contains_member-requires-clause-good c = (target_asks _ _ _ c.requires.negatable c.requires.good c.requires.shallow c.requires.sup_in_bounds _ _ c.negate.ensures _ c.in_ok-n.was).1.0
 
 pub union_contains_member-requires-clause-n_in_bounds : goal.union_contains_member-requires-clause-n_in_bounds
-union_contains_member-requires-clause-n_in_bounds c = (target_asks _ _ _ c.requires.negatable c.requires.good c.requires.shallow c.requires.sup_in_bounds _ _ c.negate.ensures _ c.in-Number.is).1.1
+union_contains_member-requires-clause-n_in_bounds c = (target_asks _ _ _ c.requires.negatable c.requires.good c.requires.shallow c.requires.sup_in_bounds _ _ c.negate.ensures _ c.in_ok-n.was).1.1
 
 pub returns-then-union_contains_member : goal.returns-then-union_contains_member
-returns-then-union_contains_member c = target_old _ _ _ c.requires.negatable c.requires.good c.requires.shallow c.requires.sup_in_bounds _ _ c.negate.ensures _ c.in-Number.is _ c.union_contains_member.ensures c.if-union_contains_member.true
+returns-then-union_contains_member c = target_old _ _ _ c.requires.negatable c.requires.good c.requires.shallow c.requires.sup_in_bounds _ _ c.negate.ensures _ c.in_ok-n.was _ c.union_contains_member.ensures c.if-union_contains_member.true
 
 pub entries_count-number-requires : goal.entries_count-number-requires
-entries_count-number-requires c = target_laid _ _ _ c.requires.negatable c.requires.good c.requires.shallow c.requires.sup_in_bounds _ _ c.negate.ensures _ c.in-Number.is
+entries_count-number-requires c = target_laid _ _ _ c.requires.negatable c.requires.good c.requires.shallow c.requires.sup_in_bounds _ _ c.negate.ensures _ c.in_ok-n.was
 
 pub entries_capacity-requires : goal.entries_capacity-requires
-entries_capacity-requires c = target_laid _ _ _ c.requires.negatable c.requires.good c.requires.shallow c.requires.sup_in_bounds _ _ c.negate.ensures _ c.in-Number.is
+entries_capacity-requires c = target_laid _ _ _ c.requires.negatable c.requires.good c.requires.shallow c.requires.sup_in_bounds _ _ c.negate.ensures _ c.in_ok-n.was
 
 pub returns-then-entries_capacity-number : goal.returns-then-entries_capacity-number
-returns-then-entries_capacity-number c = target_none _ _ _ c.requires.negatable c.requires.good c.requires.shallow c.requires.sup_in_bounds _ _ c.negate.ensures _ c.in-Number.is _ c.union_contains_member.ensures c.if-union_contains_member.false _ _ c.entries_count-number.ensures c.entries_capacity.ensures c.if-entries_capacity-number.true
+returns-then-entries_capacity-number c = target_none _ _ _ c.requires.negatable c.requires.good c.requires.shallow c.requires.sup_in_bounds _ _ c.negate.ensures _ c.in_ok-n.was _ c.union_contains_member.ensures c.if-union_contains_member.false _ _ c.entries_count-number.ensures c.entries_capacity.ensures c.if-entries_capacity-number.true
 
 pub entry_word-requires-clause-laid : goal.entry_word-requires-clause-laid
-entry_word-requires-clause-laid c = target_laid _ _ _ c.requires.negatable c.requires.good c.requires.shallow c.requires.sup_in_bounds _ _ c.negate.ensures _ c.in-Number.is
+entry_word-requires-clause-laid c = target_laid _ _ _ c.requires.negatable c.requires.good c.requires.shallow c.requires.sup_in_bounds _ _ c.negate.ensures _ c.in_ok-n.was
 
 pub entry_word-requires-clause-i_in_bounds : goal.entry_word-requires-clause-i_in_bounds
-entry_word-requires-clause-i_in_bounds c = target_below _ _ _ c.requires.negatable c.requires.good c.requires.shallow c.requires.sup_in_bounds _ _ c.negate.ensures _ c.in-Number.is
+entry_word-requires-clause-i_in_bounds c = target_below _ _ _ c.requires.negatable c.requires.good c.requires.shallow c.requires.sup_in_bounds _ _ c.negate.ensures _ c.in_ok-n.was
 
 pub overflow_add-spread : goal.overflow_add-spread
-overflow_add-spread c = omega (arith, sup_low _ _ _ c.requires.negatable c.requires.good c.requires.shallow c.requires.sup_in_bounds _ _ c.negate.ensures _ c.in-Number.is _ c.entry_word.ensures)
+overflow_add-spread c = omega (arith, sup_low _ _ _ c.requires.negatable c.requires.good c.requires.shallow c.requires.sup_in_bounds _ _ c.negate.ensures _ c.in_ok-n.was _ c.entry_word.ensures)
 
 pub entry_word-requires-2-clause-laid : goal.entry_word-requires-2-clause-laid
-entry_word-requires-2-clause-laid c = target_laid _ _ _ c.requires.negatable c.requires.good c.requires.shallow c.requires.sup_in_bounds _ _ c.negate.ensures _ c.in-Number.is
+entry_word-requires-2-clause-laid c = target_laid _ _ _ c.requires.negatable c.requires.good c.requires.shallow c.requires.sup_in_bounds _ _ c.negate.ensures _ c.in_ok-n.was
 
 pub entry_word-requires-2-clause-i_in_bounds : goal.entry_word-requires-2-clause-i_in_bounds
-entry_word-requires-2-clause-i_in_bounds c = target_number _ _ _ c.requires.negatable c.requires.good c.requires.shallow c.requires.sup_in_bounds _ _ c.negate.ensures _ c.in-Number.is
+entry_word-requires-2-clause-i_in_bounds c = target_number _ _ _ c.requires.negatable c.requires.good c.requires.shallow c.requires.sup_in_bounds _ _ c.negate.ensures _ c.in_ok-n.was
 
 pub overflow_add-spread-2 : goal.overflow_add-spread-2
-overflow_add-spread-2 c = omega (arith, sup_low _ _ _ c.requires.negatable c.requires.good c.requires.shallow c.requires.sup_in_bounds _ _ c.negate.ensures _ c.in-Number.is _ c.entry_word.ensures, negation_low _ _ _ c.requires.negatable c.requires.good c.requires.shallow c.requires.sup_in_bounds _ _ c.negate.ensures _ c.in-Number.is _ c.entry_word-2.ensures)
+overflow_add-spread-2 c = omega (arith, sup_low _ _ _ c.requires.negatable c.requires.good c.requires.shallow c.requires.sup_in_bounds _ _ c.negate.ensures _ c.in_ok-n.was _ c.entry_word.ensures, negation_low _ _ _ c.requires.negatable c.requires.good c.requires.shallow c.requires.sup_in_bounds _ _ c.negate.ensures _ c.in_ok-n.was _ c.entry_word-2.ensures)
 
 pub push_entry-requires-clause-shown : goal.push_entry-requires-clause-shown
-push_entry-requires-clause-shown c = (target_room _ _ _ c.requires.negatable c.requires.good c.requires.shallow c.requires.sup_in_bounds _ _ c.negate.ensures _ c.in-Number.is _ c.union_contains_member.ensures c.if-union_contains_member.false _ _ c.entries_count-number.ensures c.entries_capacity.ensures c.if-entries_capacity-number.false).0
+push_entry-requires-clause-shown c = (target_room _ _ _ c.requires.negatable c.requires.good c.requires.shallow c.requires.sup_in_bounds _ _ c.negate.ensures _ c.in_ok-n.was _ c.union_contains_member.ensures c.if-union_contains_member.false _ _ c.entries_count-number.ensures c.entries_capacity.ensures c.if-entries_capacity-number.false).0
 
 pub returns : goal.returns
-returns c = target_new _ _ _ c.requires.negatable c.requires.good c.requires.shallow c.requires.sup_in_bounds _ _ c.negate.ensures _ c.in-Number.is _ c.union_contains_member.ensures c.if-union_contains_member.false _ _ c.entries_count-number.ensures c.entries_capacity.ensures c.if-entries_capacity-number.false _ _ c.entry_word.ensures c.entry_word-2.ensures _ c.push_entry.ensures
+returns c = target_new _ _ _ c.requires.negatable c.requires.good c.requires.shallow c.requires.sup_in_bounds _ _ c.negate.ensures _ c.in_ok-n.was _ c.union_contains_member.ensures c.if-union_contains_member.false _ _ c.entries_count-number.ensures c.entries_capacity.ensures c.if-entries_capacity-number.false _ _ c.entry_word.ensures c.entry_word-2.ensures _ c.push_entry.ensures

@@ -8,8 +8,8 @@ use Rattle.step.proofs.consequences.put_field_pairs.Goals as goal
 pub put_dynamic_pair-requires-clause-b_len_bound : goal.put_dynamic_pair-requires-clause-b_len_bound
 put_dynamic_pair-requires-clause-b_len_bound c = dynamic_room _ c.args.a c.args.b c.requires.b_len_bound
 
-pub overflow_add-j : goal.overflow_add-j
-overflow_add-j c = omega (arith, c.requires.inside_2, fields_few c.args.image.now (shown_laid c.requires.midway))
+pub overflow_add-end : goal.overflow_add-end
+overflow_add-end c = omega (arith, c.requires.inside_2, fields_few c.args.image.now (shown_laid c.requires.midway))
 
 pub loop-j-init : goal.loop-j-init
 loop-j-init c = putting_start (ready _ c.args.a c.args.b c.put_dynamic_pair.ensures c.requires.inside c.requires.inside_2 c.requires.b_len_bound)
