@@ -4,28 +4,29 @@
 
 mod name_list;
 
-use operators::Resolved;
+use model::Refusal;
+use operators::{Operator, Primitive};
 use std::io;
 use std::io::Write;
 
 // The operators, by name.
-const OPERATORS: [(u32, &str); 4] = [
-    (operators::ADD, "Add"),
-    (operators::SUB, "Sub"),
-    (operators::MUL, "Mul"),
-    (operators::DIV, "Div"),
+const OPERATORS: [(Operator, &str); 4] = [
+    (Operator::Add, "Add"),
+    (Operator::Sub, "Sub"),
+    (Operator::Mul, "Mul"),
+    (Operator::Div, "Div"),
 ];
 
 // The primitives, by name.
-const PRIMITIVES: [(u32, &str); 8] = [
-    (operators::NULL, "Null"),
-    (operators::BOOL, "Bool"),
-    (operators::INT, "Int"),
-    (operators::FLOAT, "Float"),
-    (operators::STRING, "String"),
-    (operators::PATH, "Path"),
-    (operators::URI, "Uri"),
-    (operators::NUMBER, "Number"),
+const PRIMITIVES: [(Primitive, &str); 8] = [
+    (Primitive::Null, "Null"),
+    (Primitive::Bool, "Bool"),
+    (Primitive::Int, "Int"),
+    (Primitive::Float, "Float"),
+    (Primitive::String, "String"),
+    (Primitive::Path, "Path"),
+    (Primitive::Uri, "Uri"),
+    (Primitive::Number, "Number"),
 ];
 
 fn main(rt: HostRuntime) -> io::Result<()> {
@@ -36,7 +37,7 @@ fn main(rt: HostRuntime) -> io::Result<()> {
 alone: known from the left alone; once: bound at once; -: none."
     )?;
     for (op, name) in OPERATORS {
-        print_operator(&mut out, op, name)?;
+        print_operator(&mut out, op as u32, name)?;
     }
     name_list::print_lists(&mut out)
 }
@@ -50,7 +51,7 @@ fn print_operator<W: Write>(out: &mut W, op: u32, name: &str) -> io::Result<()> 
     writeln!(out, "  |   alone    once")?;
     for (left, name) in PRIMITIVES {
         write!(out, "{name:>8}")?;
-        print_row(out, op, left)?;
+        print_row(out, op, left as u32)?;
     }
     Ok(())
 }
@@ -58,7 +59,11 @@ fn print_operator<W: Write>(out: &mut W, op: u32, name: &str) -> io::Result<()> 
 // The result of a left primitive with each right one, and what needs no right one.
 fn print_row<W: Write>(out: &mut W, op: u32, left: u32) -> io::Result<()> {
     for (right, _) in PRIMITIVES {
-        write!(out, "{:>8}", told(operators::resolve(op, left, right)))?;
+        write!(
+            out,
+            "{:>8}",
+            told(operators::resolve(op, left, right as u32))
+        )?;
     }
     writeln!(
         out,
@@ -69,13 +74,13 @@ fn print_row<W: Write>(out: &mut W, op: u32, left: u32) -> io::Result<()> {
 }
 
 // An answer: a primitive's name, or that there is none.
-fn told(answer: Resolved) -> &'static str {
+fn told(answer: Result<Option<u32>, Refusal>) -> &'static str {
     match answer {
-        Resolved::Primitive(p) => PRIMITIVES
+        Ok(Some(p)) => PRIMITIVES
             .iter()
-            .find(|(n, _)| *n == p)
+            .find(|(primitive, _)| *primitive as u32 == p)
             .map_or("ANOTHER", |(_, name)| *name),
-        Resolved::None => "-",
-        Resolved::Refused(_) => "refused",
+        Ok(None) => "-",
+        Err(_) => "refused",
     }
 }

@@ -1,6 +1,6 @@
 // Name lists, printed: what each name call answers on a list, and on one that is malformed.
-use model::{Refusal, Reply};
-use names::{Compared, Counted, Found, Order};
+use model::Refusal;
+use refusals::number;
 use std::fmt::Display;
 use std::io::Write;
 use std::{fmt, io};
@@ -13,7 +13,7 @@ impl<T: Display> Display for Told<T> {
     fn fmt<W: fmt::Write>(&self, f: &mut fmt::Formatter<W>) -> fmt::Result {
         match &self.0 {
             Ok(answer) => write!(f, "{answer}"),
-            Err(r) => write!(f, "refused {}", refusals::number(*r)),
+            Err(r) => write!(f, "refused {}", number(*r)),
         }
     }
 }
@@ -41,13 +41,13 @@ pub fn print_lists<W: Write>(out: &mut W) -> io::Result<()> {
 
 // What each name call answers: there are names 0 to 2, none has the number 3, and none is `z`.
 fn print_calls<W: Write>(out: &mut W, list: &[u8]) -> io::Result<()> {
-    writeln!(out, "check: {}", Told(checked(names::check(list))))?;
-    writeln!(out, "count: {}", Told(counted(names::count(list))))?;
+    writeln!(out, "check: {}", Told(names::check(list).map(|()| "done")))?;
+    writeln!(out, "count: {}", Told(names::count(list)))?;
     for n in 0..=3 {
         print_name(out, list, n)?;
     }
     for (i, j) in [(0, 1), (1, 1), (2, 1)] {
-        let order = compared(names::compare(list, i, j));
+        let order = names::compare(list, i, j).map(|order| order as i32);
         writeln!(out, "compare {i} and {j}: {}", Told(order))?;
     }
     for name in ["x", "z"] {
@@ -60,53 +60,18 @@ fn print_calls<W: Write>(out: &mut W, list: &[u8]) -> io::Result<()> {
 fn print_name<W: Write>(out: &mut W, list: &[u8], n: u32) -> io::Result<()> {
     write!(out, "name {n}: \"")?;
     out.write_all(names::show(list, n))?;
-    match checked(names::check_name(list, n)) {
-        Ok(_) => writeln!(out, "\""),
-        refused => writeln!(out, "\", {}", Told(refused)),
+    match names::check_name(list, n) {
+        Ok(()) => writeln!(out, "\""),
+        Err(r) => writeln!(out, "\", refused {}", number(r)),
     }
 }
 
 // The number of the name that has these bytes.
 fn print_search<W: Write>(out: &mut W, list: &[u8], name: &str) -> io::Result<()> {
     write!(out, "find {name}: ")?;
-    match found(names::find(list, name.as_bytes())) {
+    match names::find(list, name.as_bytes()) {
         Ok(Some(n)) => writeln!(out, "{n}"),
         Ok(None) => writeln!(out, "absent"),
-        Err(r) => writeln!(out, "{}", Told::<u32>(Err(r))),
-    }
-}
-
-// What a check answers.
-fn checked(reply: Reply) -> Result<&'static str, Refusal> {
-    match reply {
-        Reply::Done => Ok("done"),
-        Reply::Refused(r) => Err(r),
-    }
-}
-
-// What a count answers.
-fn counted(answer: Counted) -> Result<u32, Refusal> {
-    match answer {
-        Counted::Count(n) => Ok(n),
-        Counted::Refused(r) => Err(r),
-    }
-}
-
-// What a comparison answers: 01's number for the order.
-fn compared(answer: Compared) -> Result<i32, Refusal> {
-    match answer {
-        Compared::Order(Order::Before) => Ok(-1),
-        Compared::Order(Order::Same) => Ok(0),
-        Compared::Order(Order::After) => Ok(1),
-        Compared::Refused(r) => Err(r),
-    }
-}
-
-// What a search answers.
-fn found(answer: Found) -> Result<Option<u32>, Refusal> {
-    match answer {
-        Found::At(n) => Ok(Some(n)),
-        Found::Absent => Ok(None),
-        Found::Refused(r) => Err(r),
+        Err(r) => writeln!(out, "refused {}", number(r)),
     }
 }
