@@ -4,8 +4,6 @@
 
 ghost use Rattle.std.specs.Prelude.{◌≡◌, length};
 
-use model::Dynamic;
-
 // Its names `__functor`, `x`, `y`: their count, the offsets, and the bytes.
 pub const NAMES: [u8; 21] = *b"\x03\0\0\0\x09\0\x0A\0\x0B\0__functorxy";
 
@@ -65,5 +63,5 @@ fn capacities(entries: u32) -> image::Capacities {
 
 // An attrset with no dynamic type.
 fn make_attrset(words: &mut [u32], fields: &[u32], is_open: bool) {
-    let _ = sheafwinch::make_attrset(words, fields, is_open, Dynamic::Absent);
+    let _ = sheafwinch::make_attrset(words, fields, is_open, None);
 }

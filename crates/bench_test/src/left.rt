@@ -1,5 +1,6 @@
 // What stands in a table after its questions: how many entries, those that the questions made, the bounds, and the visited pairs.
-use model::{Entry, EntryRead, Record, Refusal};
+use model::{Entry, Record, Refusal};
+use sheafwinch::{entry, record};
 use std::io;
 use std::io::Write;
 
@@ -69,21 +70,5 @@ fn print_record<W: Write>(out: &mut W, read: Result<Record, Refusal>) -> io::Res
         ) => write!(out, " ({variable},{side},{bound})"),
         Ok(Record::Visited { sub, sup }) => write!(out, " ({sub},{sup})"),
         _ => write!(out, " ANOTHER RECORD"),
-    }
-}
-
-// An entry, or why it is refused.
-fn entry(words: &[u32], n: u32) -> Result<Entry, Refusal> {
-    match sheafwinch::entry(words, n) {
-        EntryRead::Entry(entry) => Ok(entry),
-        EntryRead::Refused(r) => Err(r),
-    }
-}
-
-// A record, or why it is refused.
-fn record(words: &[u32], region: u32, n: u32) -> Result<Record, Refusal> {
-    match sheafwinch::record(words, region, n) {
-        Record::Refused(r) => Err(r),
-        record => Ok(record),
     }
 }

@@ -8,7 +8,7 @@ mod repeated_bounds;
 
 use bench_table::{NAMES, make_table, make_with, room};
 use left::print_left;
-use model::{Instalment, Opening};
+use model::{Instalment, Refusal};
 use std::io;
 use std::io::Write;
 use told_in_words::{print_instalment, print_refusal};
@@ -95,20 +95,15 @@ fn print_budgets<W: Write>(out: &mut W) -> io::Result<()> {
     print_opening(out, sheafwinch::open(&mut words, false, 1, 6, 0))?;
     for budget in [2, 1] {
         write!(out, "; ")?;
-        print_worked(out, sheafwinch::work(&mut words, budget))?;
+        print_instalment(out, &NAMES, sheafwinch::work(&mut words, budget))?;
     }
     print_left(out, &words)
 }
 
 // What an opening answers: a refusal, and no steps; or the first instalment.
-fn print_opening<W: Write>(out: &mut W, opening: Opening) -> io::Result<()> {
+fn print_opening<W: Write>(out: &mut W, opening: Result<Instalment, Refusal>) -> io::Result<()> {
     match opening {
-        Opening::Refused(r) => print_refusal(out, &NAMES, r),
-        Opening::Worked(first) => print_worked(out, first),
+        Ok(first) => print_instalment(out, &NAMES, first),
+        Err(r) => print_refusal(out, &NAMES, r),
     }
-}
-
-// What an instalment answers, and its steps.
-fn print_worked<W: Write>(out: &mut W, done: Instalment) -> io::Result<()> {
-    print_instalment(out, &NAMES, done)
 }

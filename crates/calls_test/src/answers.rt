@@ -2,56 +2,39 @@
 // gives its own too. A refusal at the opening is told apart from one of a step.
 // A call that is refused must leave every word; one that does not is told as `CHANGED`. An opening whose step is refused has asked the
 // question; one that leaves every word is told as `SAME`.
-use model::{Answer, Instalment, Made, Opening, Refusal, Reply};
+use model::{Answer, Instalment, Refusal};
 use std::fmt;
 
-// What a call answers, by its kind: a make, work, an opening, with the steps of its first instalment, or another.
+// What a call answers, by its kind: a make, work, an opening, or another.
 #[derive(Clone, Copy)]
 pub enum Answered {
     Made(Result<u32, Refusal>),
-    Worked(Result<Answer, Refusal>),
+    Worked(Instalment),
     Opened(Result<Instalment, Refusal>),
     Done(Result<(), Refusal>),
 }
 
-impl From<Made> for Answered {
-    fn from(made: Made) -> Answered {
-        Answered::Made(match made {
-            Made::Number(n) => Ok(n),
-            Made::Refused(r) => Err(r),
-        })
+impl From<Result<u32, Refusal>> for Answered {
+    fn from(made: Result<u32, Refusal>) -> Answered {
+        Answered::Made(made)
     }
 }
 
 impl From<Instalment> for Answered {
-    fn from(instalment: Instalment) -> Answered {
-        Answered::Worked(answer(instalment))
+    fn from(worked: Instalment) -> Answered {
+        Answered::Worked(worked)
     }
 }
 
-impl From<Opening> for Answered {
-    fn from(opening: Opening) -> Answered {
-        Answered::Opened(match opening {
-            Opening::Worked(first) => Ok(first),
-            Opening::Refused(r) => Err(r),
-        })
+impl From<Result<Instalment, Refusal>> for Answered {
+    fn from(opened: Result<Instalment, Refusal>) -> Answered {
+        Answered::Opened(opened)
     }
 }
 
-impl From<Reply> for Answered {
-    fn from(reply: Reply) -> Answered {
-        Answered::Done(match reply {
-            Reply::Done => Ok(()),
-            Reply::Refused(r) => Err(r),
-        })
-    }
-}
-
-// An instalment's answer, or the refusal of a step.
-fn answer(instalment: Instalment) -> Result<Answer, Refusal> {
-    match instalment.answer {
-        Answer::Refused(r) => Err(r),
-        answer => Ok(answer),
+impl From<Result<(), Refusal>> for Answered {
+    fn from(done: Result<(), Refusal>) -> Answered {
+        Answered::Done(done)
     }
 }
 
@@ -67,16 +50,35 @@ impl fmt::Display for Told {
         match self.answered {
             Answered::Made(Ok(n)) => write!(f, " {n}"),
             Answered::Done(Ok(())) => write!(f, " ok"),
-            Answered::Worked(Ok(answer)) => f.write_str(said(answer)),
-            Answered::Opened(Ok(first)) => match answer(first) {
-                Ok(answer) => f.write_str(said(answer)),
-                Err(r) => {
-                    let same = if self.is_same { " SAME" } else { "" };
-                    write!(f, " r{}+{}{same}", Short(r), first.steps)
-                }
-            },
+            Answered::Opened(
+                Ok(
+                    Instalment {
+                        answer: Err(r),
+                        steps,
+                    },
+                ),
+            ) => {
+                let same = if self.is_same { " SAME" } else { "" };
+                write!(f, " r{}+{steps}{same}", Short(r))
+            }
             Answered::Opened(Err(r)) => write!(f, " u{}{}", Short(r), self.changed()),
-            Answered::Made(Err(r)) | Answered::Worked(Err(r)) | Answered::Done(Err(r)) => {
+            Answered::Opened(
+                Ok(
+                    Instalment {
+                        answer: Ok(answer),
+                        ..
+                    },
+                ),
+            )
+            | Answered::Worked(
+                Instalment {
+                    answer: Ok(answer),
+                    ..
+                },
+            ) => f.write_str(said(answer)),
+            Answered::Made(Err(r))
+            | Answered::Done(Err(r))
+            | Answered::Worked(Instalment { answer: Err(r), .. }) => {
                 write!(f, " r{}{}", Short(r), self.changed())
             }
         }
@@ -96,7 +98,6 @@ fn said(answer: Answer) -> &'static str {
         Answer::Yes => " yes",
         Answer::More => " MORE",
         Answer::Failed(_) => " FAILED",
-        Answer::Refused(_) => " REFUSED",
     }
 }
 

@@ -5,7 +5,7 @@ ghost use Rattle.std.specs.Prelude.{◌<◌, ◌≤◌};
 use crate::random_words::{Random, count_refused};
 use bench_table::{make_table, room};
 use image::format::{LOWER, UPPER};
-use model::{EntryRead, Refusal, Reply};
+use model::Refusal;
 use std::io;
 use std::io::Write;
 
@@ -164,48 +164,22 @@ impl<W: Write> Trials<'_, W> {
         if let Some(word) = changed.get_mut(at) {
             *word = word.wrapping_add(more);
         }
-        let read = read(&changed);
+        let read = sheafwinch::entry(&changed, 0).map(|_| ());
         let mut marked = changed;
-        if mark(&mut marked) != read {
+        if sheafwinch::mark(&mut marked, 0) != read {
             write!(self.out, "\nTHE CALLS DISAGREE\n")?;
         }
         match read {
-            Told::Taken => {}
-            Told::BadTable if marked == changed => {}
-            Told::BadTable => write!(self.out, "\nA REFUSAL CHANGED WORDS\n")?,
-            Told::Another => write!(self.out, "\nANOTHER REFUSAL\n")?,
+            Ok(()) => {}
+            Err(Refusal::BadTable) if marked == changed => {}
+            Err(Refusal::BadTable) => write!(self.out, "\nA REFUSAL CHANGED WORDS\n")?,
+            Err(_) => write!(self.out, "\nANOTHER REFUSAL\n")?,
         }
-        Ok(read == Told::BadTable)
+        Ok(read == Err(Refusal::BadTable))
     }
 }
 
 // What to add: often little, so that a number stays in its range.
 fn amount(x: u32) -> u32 {
     if x % 4 == 0 { x } else { 1 + x / 4 % 15 }
-}
-
-// What a call answers: taken, refused as no image, or another refusal.
-#[derive(Clone, Copy, PartialEq, Eq)]
-enum Told {
-    Taken,
-    BadTable,
-    Another,
-}
-
-// What the read of an entry answers.
-fn read(words: &[u32]) -> Told {
-    match sheafwinch::entry(words, 0) {
-        EntryRead::Entry(_) => Told::Taken,
-        EntryRead::Refused(Refusal::BadTable) => Told::BadTable,
-        EntryRead::Refused(_) => Told::Another,
-    }
-}
-
-// What a mark answers.
-fn mark(words: &mut [u32]) -> Told {
-    match sheafwinch::mark(words, 0) {
-        Reply::Done => Told::Taken,
-        Reply::Refused(Refusal::BadTable) => Told::BadTable,
-        Reply::Refused(_) => Told::Another,
-    }
 }

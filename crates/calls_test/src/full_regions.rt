@@ -3,7 +3,6 @@
 use crate::script::{Call, room, run};
 use image::Capacities;
 use image::format::{LOWER, UPPER};
-use model::Dynamic;
 use std::alloc::Global;
 use std::io;
 use std::io::Write;
@@ -21,12 +20,12 @@ const CALLS: [Call; 14] = [
     Call::Attrset {
         fields: &[1, 1, 0, 2, 2, 1],
         is_open: false,
-        dynamic: Dynamic::Absent,
+        dynamic: None,
     },
     Call::Attrset {
         fields: &[0, 0, 0],
         is_open: true,
-        dynamic: Dynamic::Present(0),
+        dynamic: Some(0),
     },
     Call::PutBound(0, LOWER, 0),
     Call::PutBound(0, LOWER, 0),

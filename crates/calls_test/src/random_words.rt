@@ -1,7 +1,7 @@
 // Words at random are no image: the read of an entry refuses them at every length from 0 to 200.
 ghost use Rattle.std.specs.Prelude.{◌≤◌};
 
-use model::{EntryRead, Refusal};
+use model::Refusal;
 use std::io;
 use std::io::Write;
 
@@ -47,8 +47,5 @@ pub fn count_refused(words: &[u32], most: usize) -> usize
 
 // Whether the words are refused as no image.
 fn is_bad(words: &[u32]) -> bool {
-    matches!(
-        sheafwinch::entry(words, 0),
-        EntryRead::Refused(Refusal::BadTable)
-    )
+    matches!(sheafwinch::entry(words, 0), Err(Refusal::BadTable))
 }

@@ -1,7 +1,6 @@
 // The calls of the small scripts, and what each answers. A call that is refused is held to the words that stood before it.
 use crate::answers::{Answered, Told};
 use image::Capacities;
-use model::Dynamic;
 use std::alloc::{AllocError, Global};
 use std::io;
 use std::io::Write;
@@ -19,7 +18,7 @@ pub enum Call {
     Attrset {
         fields: &'static [u32],
         is_open: bool,
-        dynamic: Dynamic,
+        dynamic: Option<u32>,
     },
     // a variable, its side, and the bound
     PutBound(u32, u32, u32),
