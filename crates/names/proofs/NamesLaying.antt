@@ -1,18 +1,14 @@
--- Where names lie: a name's part of the list, and a list whose offsets are right has each name inside it. Assumes nothing.
+-- Where names lie: a list whose offsets are right has each name inside it. Assumes nothing.
 use Prim.Native.Nat.{ℕ, zero, suc, ◌+◌, ◌-◌, ◌≤◌, ◌<◌}
 use native.Mathlib.Omega.{arith}
 use mathlib.Core.Path.{◌≡◌}
 use mathlib.Core.List.{List}
 use mathlib.Core.Bool.{true}
-use lib.ListN.{length, get_or, take, drop}
+use lib.ListN.{length, get_or}
 use borrow.Author.Tests.{leb-true, eqb-true}
-use Rattle.names.specs.Names.{name_count, name_offset, bytes_at, name_at, name_of, header_whole, rises_at, none_falls, last_right, tests, names_right}
+use Rattle.names.specs.Names.{name_count, name_offset, bytes_at, header_whole, rises_at, none_falls, last_right, tests, names_right}
 use Rattle.names.specs.NamesLaid.{NamesLaid}
 use Rattle.names.proofs.All.{all_at, all_of_at}
-
-pub name_part : (bs : List ℕ) (i a b : ℕ) → a ≡ name_at bs i → b ≡ name_at bs (i + 1) → take (b - a) (drop a bs) ≡ name_of bs i
-unfolding name_of
-name_part bs i a b p q = rw (p, q)
 
 module _ (bs : List ℕ) (w : header_whole bs ≡ true) (f : none_falls bs ≡ true) (l : last_right bs ≡ true) where
   rises : (i : ℕ) → i < name_count bs → name_offset bs i ≤ name_offset bs (i + 1)

@@ -1,5 +1,5 @@
 -- What the calls know of a list's layout once its header and offsets are right: names lie inside the list. The private
--- functions require it, and no public promise speaks of it. Assumes nothing.
+-- type `Names` holds it, and no public promise speaks of it. Assumes nothing.
 use Rattle.std.specs.Prelude.{ℕ, ◌+◌, ◌≤◌, ◌<◌, List, length}
 use Rattle.names.specs.Names.{name_count, bytes_at, name_at}
 

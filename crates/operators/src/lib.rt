@@ -67,6 +67,8 @@ impl TryFrom<u32> for Primitive {
     }
 }
 
+// The calls take and answer numbers: C has them so.
+
 // The result of an operator on two primitives.
 #[tactic(auto, using(crate::proofs::Listed::operator_listed, crate::proofs::Listed::primitive_listed), unfolding(crate::specs::Operators::resolved))]
 pub fn resolve(op: u32, left: u32, right: u32) -> Result<Option<u32>, Refusal>
