@@ -65,7 +65,7 @@ came x w v e f =
     subst (λ (u : List ℕ). Came x ro w (before_last w) o u) (sym f) k
 
 -- what an instalment tells
-pub record Tells (w : List ℕ) (budget : ℕ) (a : Answer) (k : ℕ) (v : List ℕ) : Type 0 where
+pub record Tells (w : List ℕ) (budget : ℕ) (a : Result Answer Refusal) (k : ℕ) (v : List ℕ) : Type 0 where
   pub says : told_answer a ≡ (worked w budget).says
   pub steps : k ≡ (worked w budget).steps
   pub leaves : v ≡ (worked w budget).words
@@ -84,7 +84,7 @@ module _ (w₀ : List ℕ) (budget : ℕ) where
   whole = work rule room budget (store_of w₀) (pending_in w₀)
 
   -- the answer, by what the whole comes to
-  tells : (y : Roomed Store Pair Failure Refusal) (a : Answer) (k : ℕ) (v : List ℕ) → whole ≡ y
+  tells : (y : Roomed Store Pair Failure Refusal) (a : Result Answer Refusal) (k : ℕ) (v : List ℕ) → whole ≡ y
       → told_answer a ≡ (response_of w₀ (worked_turn budget y)).says → k ≡ (response_of w₀ (worked_turn budget y)).steps → v ≡ (response_of w₀ (worked_turn budget y)).words
       → Tells w₀ budget a k v
   unfolding worked
@@ -98,12 +98,12 @@ module _ (w₀ : List ℕ) (budget : ℕ) where
     none_pending [] z = refl
     none_pending (x ∷ l) z = absurd (omega arith)
 
-    pub running_yes : length (pending_in w) ≤ 0 → Tells w₀ budget A.Yes steps w
+    pub running_yes : length (pending_in w) ≤ 0 → Tells w₀ budget (Ok A.Yes) steps w
     unfolding response_of worked_turn
     running_yes z =
         let e : pending_in w ≡ [] = none_pending (pending_in w) z in
         let r : whole ≡ after_roomed steps (work rule room (budget - steps) (store_of w) []) = h.rest ∙ ap (λ (l : List Pair). after_roomed steps (work rule room (budget - steps) (store_of w) l)) e in
-        tells (answered (yes_in steps (store_of w))) A.Yes steps w (loop_yes rule room budget whole steps (store_of w) r) refl refl
+        tells (answered (yes_in steps (store_of w))) (Ok A.Yes) steps w (loop_yes rule room budget whole steps (store_of w) r) refl refl
         (sym (words_table w h.formed) ∙ ap (λ (l : List Pair). words (table_of (store_of w) l)) e)
 
     module _ (some : 0 < length (pending_in w)) where
@@ -117,23 +117,23 @@ module _ (w₀ : List ℕ) (budget : ℕ) where
       as_found = sym (words_table w h.formed) ∙ ap (λ (l : List Pair). words (table_of (store_of w) l)) (sym split)
 
       -- the budget used
-      pub running_more : steps ≡ budget → Tells w₀ budget A.More steps w
+      pub running_more : steps ≡ budget → Tells w₀ budget (Ok A.More) steps w
       unfolding response_of worked_turn
       running_more e =
-          tells (answered (more_at (store_of w) (before_last w ++ (last_pair w ∷ [])))) A.More steps w
+          tells (answered (more_at (store_of w) (before_last w ++ (last_pair w ∷ [])))) (Ok A.More) steps w
           (loop_more rule room budget whole steps (store_of w) (before_last w) (last_pair w) here e) refl e as_found
 
       module _ (lt : steps < budget) (v : List ℕ) where
-        pub running_failed : (f : Failure) → CameAt (Ok (Failed f)) w v → Tells w₀ budget (A.Failed f) (steps + 1) v
+        pub running_failed : (f : Failure) → CameAt (Ok (Failed f)) w v → Tells w₀ budget (Ok (A.Failed f)) (steps + 1) v
         unfolding response_of worked_turn
         running_failed f k =
-            tells (answered (fail_in (steps + 1) f k.0)) (A.Failed f) (steps + 1) v
+            tells (answered (fail_in (steps + 1) f k.0)) (Ok (A.Failed f)) (steps + 1) v
             (loop_fails rule room budget whole steps (store_of w) (before_last w) (last_pair w) here lt f k.0 k.1.0 k.1.1.0) refl refl k.1.1.1
 
-        pub running_refused : (r : Refusal) → CameAt (Err r) w v → Tells w₀ budget (A.Refused r) steps v
+        pub running_refused : (r : Refusal) → CameAt (Err r) w v → Tells w₀ budget (Err r) steps v
         unfolding response_of worked_turn
         running_refused r k =
-            tells (refused_in steps r (store_of w) (before_last w ++ (last_pair w ∷ []))) (A.Refused r) steps v
+            tells (refused_in steps r (store_of w) (before_last w ++ (last_pair w ∷ []))) (Err r) steps v
             (loop_lacks rule room budget whole steps (store_of w) (before_last w) (last_pair w) here lt r k.0) refl refl (k.1 ∙ as_found)
 
         pub running_went : CameAt (Ok Went) w v → Running w₀ budget (steps + 1) v

@@ -108,10 +108,7 @@ fn ask(image: &mut [u32], q: Question) -> Result<(), Refusal>
     ensures result_value { told_reply result ≡ (response_of image.old (ask_turn q (table image.old))).says }
     ensures image_after { image.new ≡ (response_of image.old (ask_turn q (table image.old))).words }
 {
-    let fit = fitness(image, q);
-    if let Err(r) = fit {
-        return Err(r);
-    }
+    fitness(image, q)?;
     record_equal(image, q);
     put_pairs(image, q);
     writes::open_question(image);
@@ -129,31 +126,28 @@ fn instalment(image: &mut [u32], budget: u32) -> Instalment
     while 0 < image::pending_count(image) {
         if steps == budget {
             return Instalment {
-                answer: Answer::More,
+                answer: Ok(Answer::More),
                 steps,
             };
         }
-        let step = step::take_step(image);
-        match step {
-            Step::Went => {
-                steps += 1;
-            }
-            Step::Failed(f) => {
+        match step::take_step(image) {
+            Ok(Step::Went) => steps += 1,
+            Ok(Step::Failed(f)) => {
                 return Instalment {
-                    answer: Answer::Failed(f),
+                    answer: Ok(Answer::Failed(f)),
                     steps: steps + 1,
                 };
             }
-            Step::Refused(r) => {
+            Err(r) => {
                 return Instalment {
-                    answer: Answer::Refused(r),
+                    answer: Err(r),
                     steps,
                 };
             }
         }
     }
     Instalment {
-        answer: Answer::Yes,
+        answer: Ok(Answer::Yes),
         steps,
     }
 }
@@ -167,7 +161,7 @@ pub fn work(image: &mut [u32], budget: u32) -> Instalment
 {
     if !image::is_asked(image) {
         return Instalment {
-            answer: Answer::Refused(Refusal::Idle),
+            answer: Err(Refusal::Idle),
             steps: 0,
         };
     }
@@ -181,13 +175,8 @@ pub fn open(image: &mut [u32], q: Question, budget: u32) -> Result<Instalment, R
     ensures result_value_2 { steps_of result ≡ (response_of image.old (open_turn q budget (table image.old))).steps }
     ensures image_after { image.new ≡ (response_of image.old (open_turn q budget (table image.old))).words }
 {
-    match ask(image, q) {
-        Err(r) => Err(r),
-        Ok(()) => {
-            let first = work(image, budget);
-            Ok(first)
-        }
-    }
+    ask(image, q)?;
+    Ok(work(image, budget))
 }
 
 // Gives the question up: pending is emptied, and the image idle.

@@ -1,7 +1,8 @@
 -- The loop of an instalment: proofs/Working.antt, turn by turn.
+use Rattle.std.specs.Prelude.{Ok}
 use native.Mathlib.Omega.{arith}
 use borrow.Author.Rules.{rules}
-use mathlib.Core.Path.{refl, sym, ◌∙◌}
+use mathlib.Core.Path.{refl, sym, ◌∙◌, ap}
 use Rattle.image.proofs.Laying.{formed_laid}
 use Rattle.questions.proofs.Working.{running_start, running_yes, running_more, running_failed, running_refused, running_went, came}
 use Rattle.questions.proofs.instalment.Goals as goal
@@ -29,49 +30,49 @@ returns-then-steps-budget-clause-image_after c =
 
 pub loop-budget-preserved : goal.loop-budget-preserved
 loop-budget-preserved c =
-    let e = sym c.in-Went.is ∙ c.take_step-step.ensures.value in
-    let k = came _ _ _ e c.take_step-step.ensures.image_after in
+    let e = sym (c.in-Ok-Went.is ∙ ap Ok c.in-Ok-Went.field-0-is) ∙ c.take_step.ensures.value in
+    let k = came _ _ _ e c.take_step.ensures.image_after in
     (running_went _ _ _ _ c.loop-budget.invariant.0 (omega (arith, c.loop-budget-test.true, c.pending_count.ensures)) (omega (arith, c.if-steps-budget.false, c.loop-budget.invariant.0.low)) _ k, search rules)
 
-pub returns-in-Failed-clause-answer_value : goal.returns-in-Failed-clause-answer_value
-returns-in-Failed-clause-answer_value c =
-    let e = sym c.in-Failed.is ∙ c.take_step-step.ensures.value in
-    let x = came _ _ _ e c.take_step-step.ensures.image_after in
+pub returns-in-Ok-Failed-clause-answer_value : goal.returns-in-Ok-Failed-clause-answer_value
+returns-in-Ok-Failed-clause-answer_value c =
+    let e = sym (c.in-Ok-Failed.is ∙ ap Ok c.in-Ok-Failed.field-0-is) ∙ c.take_step.ensures.value in
+    let x = came _ _ _ e c.take_step.ensures.image_after in
     let k = running_failed _ _ _ _ c.loop-budget.invariant.0 (omega (arith, c.loop-budget-test.true, c.pending_count.ensures)) (omega (arith, c.if-steps-budget.false, c.loop-budget.invariant.0.low)) _ _ x in
     k.says
 
-pub returns-in-Failed-clause-steps_value : goal.returns-in-Failed-clause-steps_value
-returns-in-Failed-clause-steps_value c =
-    let e = sym c.in-Failed.is ∙ c.take_step-step.ensures.value in
-    let x = came _ _ _ e c.take_step-step.ensures.image_after in
+pub returns-in-Ok-Failed-clause-steps_value : goal.returns-in-Ok-Failed-clause-steps_value
+returns-in-Ok-Failed-clause-steps_value c =
+    let e = sym (c.in-Ok-Failed.is ∙ ap Ok c.in-Ok-Failed.field-0-is) ∙ c.take_step.ensures.value in
+    let x = came _ _ _ e c.take_step.ensures.image_after in
     let k = running_failed _ _ _ _ c.loop-budget.invariant.0 (omega (arith, c.loop-budget-test.true, c.pending_count.ensures)) (omega (arith, c.if-steps-budget.false, c.loop-budget.invariant.0.low)) _ _ x in
     k.steps
 
-pub returns-in-Failed-clause-image_after : goal.returns-in-Failed-clause-image_after
-returns-in-Failed-clause-image_after c =
-    let e = sym c.in-Failed.is ∙ c.take_step-step.ensures.value in
-    let x = came _ _ _ e c.take_step-step.ensures.image_after in
+pub returns-in-Ok-Failed-clause-image_after : goal.returns-in-Ok-Failed-clause-image_after
+returns-in-Ok-Failed-clause-image_after c =
+    let e = sym (c.in-Ok-Failed.is ∙ ap Ok c.in-Ok-Failed.field-0-is) ∙ c.take_step.ensures.value in
+    let x = came _ _ _ e c.take_step.ensures.image_after in
     let k = running_failed _ _ _ _ c.loop-budget.invariant.0 (omega (arith, c.loop-budget-test.true, c.pending_count.ensures)) (omega (arith, c.if-steps-budget.false, c.loop-budget.invariant.0.low)) _ _ x in
     k.leaves
 
-pub returns-in-Refused-clause-answer_value : goal.returns-in-Refused-clause-answer_value
-returns-in-Refused-clause-answer_value c =
-    let e = sym c.in-Refused.is ∙ c.take_step-step.ensures.value in
-    let x = came _ _ _ e c.take_step-step.ensures.image_after in
+pub returns-in-Err-clause-answer_value : goal.returns-in-Err-clause-answer_value
+returns-in-Err-clause-answer_value c =
+    let e = sym c.in-Err.is ∙ c.take_step.ensures.value in
+    let x = came _ _ _ e c.take_step.ensures.image_after in
     let k = running_refused _ _ _ _ c.loop-budget.invariant.0 (omega (arith, c.loop-budget-test.true, c.pending_count.ensures)) (omega (arith, c.if-steps-budget.false, c.loop-budget.invariant.0.low)) _ _ x in
     k.says
 
-pub returns-in-Refused-clause-steps_value : goal.returns-in-Refused-clause-steps_value
-returns-in-Refused-clause-steps_value c =
-    let e = sym c.in-Refused.is ∙ c.take_step-step.ensures.value in
-    let x = came _ _ _ e c.take_step-step.ensures.image_after in
+pub returns-in-Err-clause-steps_value : goal.returns-in-Err-clause-steps_value
+returns-in-Err-clause-steps_value c =
+    let e = sym c.in-Err.is ∙ c.take_step.ensures.value in
+    let x = came _ _ _ e c.take_step.ensures.image_after in
     let k = running_refused _ _ _ _ c.loop-budget.invariant.0 (omega (arith, c.loop-budget-test.true, c.pending_count.ensures)) (omega (arith, c.if-steps-budget.false, c.loop-budget.invariant.0.low)) _ _ x in
     k.steps
 
-pub returns-in-Refused-clause-image_after : goal.returns-in-Refused-clause-image_after
-returns-in-Refused-clause-image_after c =
-    let e = sym c.in-Refused.is ∙ c.take_step-step.ensures.value in
-    let x = came _ _ _ e c.take_step-step.ensures.image_after in
+pub returns-in-Err-clause-image_after : goal.returns-in-Err-clause-image_after
+returns-in-Err-clause-image_after c =
+    let e = sym c.in-Err.is ∙ c.take_step.ensures.value in
+    let x = came _ _ _ e c.take_step.ensures.image_after in
     let k = running_refused _ _ _ _ c.loop-budget.invariant.0 (omega (arith, c.loop-budget-test.true, c.pending_count.ensures)) (omega (arith, c.if-steps-budget.false, c.loop-budget.invariant.0.low)) _ _ x in
     k.leaves
 
