@@ -1,9 +1,11 @@
 -- Each call's contract settles its answer and every word of the image, for all inputs: any two outcomes that it allows are equal.
 -- `Post` is the contract itself, what the function ensures of its arguments, its result and the image at exit. Assumes nothing.
+use Rattle.std.specs.Prelude.{Result}
 use Prim.Native.Nat.{ℕ}
 use mathlib.Core.Path.{◌≡◌, sym, ap, ◌∙◌}
 use mathlib.Core.List.{List}
 use denote.MutBor.{MutBor}
+use Rattle.model.specs.declared.Refusal.{Refusal}
 use Rattle.model.proofs.OneToOne.{reply_one_to_one, made_one_to_one, answer_one_to_one, opening_one_to_one, entry_read_one_to_one, record_one_to_one, disjointness_one_to_one}
 use Rattle.model.specs.declared.Answer.{Answer}
 use Rattle.model.specs.declared.Instalment.{Instalment}
@@ -86,7 +88,7 @@ set_level_settled κs a x y e f p q = (reply_one_to_one x y (p.0 ∙ sym q.0), p
 
 instalment_one : (x y : Instalment) → x.answer ≡ y.answer → x.steps ≡ y.steps → x ≡ y
 instalment_one x y e f =
-    let a : x ≡ record { answer = y.answer; steps = x.steps } = ap (λ (z : Answer). record { answer = z; steps = x.steps }) e in
+    let a : x ≡ record { answer = y.answer; steps = x.steps } = ap (λ (z : Result Answer Refusal). record { answer = z; steps = x.steps }) e in
     let b : record { answer = y.answer; steps = x.steps } ≡ y = ap (λ (k : ℕ). record { answer = y.answer; steps = k }) f in
     a ∙ b
 

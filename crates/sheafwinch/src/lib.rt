@@ -9,7 +9,7 @@ ghost use Rattle.model.specs.Calls.{start as start_of};
 ghost use Rattle.model.specs.Told.{told_made, told_reply, told_answer, told_opening, steps_of, told_entry_read, told_record, told_disjointness};
 ghost use Rattle.image.specs.Stores.{capacities_of};
 
-use model::{Answer, Instalment, Question, Record, Refusal};
+use model::{Entry, Instalment, Question, Record, Refusal};
 
 // Starts an image in the lent words, whatever stood there: idle, level and counts 0.
 pub fn start(image: &mut [u32], names: u32, functor: u32, capacities: image::Capacities) -> Result<(), Refusal>
@@ -24,10 +24,8 @@ pub fn make_variable(image: &mut [u32]) -> Result<u32, Refusal>
     ensures result_value { told_made result ≡ (perform makes_variable image.old).says }
     ensures image_after { image.new ≡ (perform makes_variable image.old).words }
 {
-    match formed::admit(image) {
-        Err(r) => Err(r),
-        Ok(()) => changes::variable_in(image),
-    }
+    formed::admit(image)?;
+    changes::variable_in(image)
 }
 
 // Makes a primitive, 0 to 7.
@@ -35,10 +33,8 @@ pub fn make_primitive(image: &mut [u32], which: u32) -> Result<u32, Refusal>
     ensures result_value { told_made result ≡ (perform (makes_primitive which) image.old).says }
     ensures image_after { image.new ≡ (perform (makes_primitive which) image.old).words }
 {
-    match formed::admit(image) {
-        Err(r) => Err(r),
-        Ok(()) => changes::primitive_in(image, which),
-    }
+    formed::admit(image)?;
+    changes::primitive_in(image, which)
 }
 
 // Makes a list of an element.
@@ -46,10 +42,8 @@ pub fn make_list(image: &mut [u32], element: u32) -> Result<u32, Refusal>
     ensures result_value { told_made result ≡ (perform (makes_list element) image.old).says }
     ensures image_after { image.new ≡ (perform (makes_list element) image.old).words }
 {
-    match formed::admit(image) {
-        Err(r) => Err(r),
-        Ok(()) => changes::one_in(image, image::format::LIST, element, 0),
-    }
+    formed::admit(image)?;
+    changes::one_in(image, image::format::LIST, element, 0)
 }
 
 // Makes a named entry; the label is never tested.
@@ -57,10 +51,8 @@ pub fn make_named(image: &mut [u32], inner: u32, label: u32) -> Result<u32, Refu
     ensures result_value { told_made result ≡ (perform (makes_named inner label) image.old).says }
     ensures image_after { image.new ≡ (perform (makes_named inner label) image.old).words }
 {
-    match formed::admit(image) {
-        Err(r) => Err(r),
-        Ok(()) => changes::one_in(image, image::format::NAMED, inner, label),
-    }
+    formed::admit(image)?;
+    changes::one_in(image, image::format::NAMED, inner, label)
 }
 
 // Makes a lambda.
@@ -68,10 +60,8 @@ pub fn make_lambda(image: &mut [u32], param: u32, body: u32) -> Result<u32, Refu
     ensures result_value { told_made result ≡ (perform (makes_lambda param body) image.old).says }
     ensures image_after { image.new ≡ (perform (makes_lambda param body) image.old).words }
 {
-    match formed::admit(image) {
-        Err(r) => Err(r),
-        Ok(()) => changes::two_in(image, image::format::LAMBDA, param, body),
-    }
+    formed::admit(image)?;
+    changes::two_in(image, image::format::LAMBDA, param, body)
 }
 
 // Makes an intersection.
@@ -79,10 +69,8 @@ pub fn make_inter(image: &mut [u32], left: u32, right: u32) -> Result<u32, Refus
     ensures result_value { told_made result ≡ (perform (makes_inter left right) image.old).says }
     ensures image_after { image.new ≡ (perform (makes_inter left right) image.old).words }
 {
-    match formed::admit(image) {
-        Err(r) => Err(r),
-        Ok(()) => changes::two_in(image, image::format::INTER, left, right),
-    }
+    formed::admit(image)?;
+    changes::two_in(image, image::format::INTER, left, right)
 }
 
 // Makes a union.
@@ -90,10 +78,8 @@ pub fn make_union(image: &mut [u32], left: u32, right: u32) -> Result<u32, Refus
     ensures result_value { told_made result ≡ (perform (makes_union left right) image.old).says }
     ensures image_after { image.new ≡ (perform (makes_union left right) image.old).words }
 {
-    match formed::admit(image) {
-        Err(r) => Err(r),
-        Ok(()) => changes::two_in(image, image::format::UNION, left, right),
-    }
+    formed::admit(image)?;
+    changes::two_in(image, image::format::UNION, left, right)
 }
 
 // Makes the negation of an entry, or answers the one that stands there.
@@ -101,10 +87,8 @@ pub fn make_neg(image: &mut [u32], n: u32) -> Result<u32, Refusal>
     ensures result_value { told_made result ≡ (perform (makes_neg n) image.old).says }
     ensures image_after { image.new ≡ (perform (makes_neg n) image.old).words }
 {
-    match formed::admit(image) {
-        Err(r) => Err(r),
-        Ok(()) => changes::neg_in(image, n),
-    }
+    formed::admit(image)?;
+    changes::neg_in(image, n)
 }
 
 // Makes an attrset with the fields of a list, triples of a name, an entry and optional.
@@ -112,10 +96,8 @@ pub fn make_attrset(image: &mut [u32], fields: &[u32], is_open: bool, dynamic: O
     ensures result_value { told_made result ≡ (perform (makes_attrset fields.now is_open dynamic) image.old).says }
     ensures image_after { image.new ≡ (perform (makes_attrset fields.now is_open dynamic) image.old).words }
 {
-    match formed::admit(image) {
-        Err(r) => Err(r),
-        Ok(()) => changes::attrset_in(image, fields, is_open, dynamic),
-    }
+    formed::admit(image)?;
+    changes::attrset_in(image, fields, is_open, dynamic)
 }
 
 // Sets the default mark of an entry.
@@ -123,10 +105,8 @@ pub fn mark(image: &mut [u32], n: u32) -> Result<(), Refusal>
     ensures result_value { told_reply result ≡ (perform (marks n) image.old).says }
     ensures image_after { image.new ≡ (perform (marks n) image.old).words }
 {
-    match formed::admit(image) {
-        Err(r) => Err(r),
-        Ok(()) => changes::mark_in(image, n),
-    }
+    formed::admit(image)?;
+    changes::mark_in(image, n)
 }
 
 // Puts a bound of a variable, on side 0 lower or 1 upper.
@@ -134,10 +114,8 @@ pub fn put_bound(image: &mut [u32], variable: u32, side: u32, bound: u32) -> Res
     ensures result_value { told_reply result ≡ (perform (puts_bound variable side bound) image.old).says }
     ensures image_after { image.new ≡ (perform (puts_bound variable side bound) image.old).words }
 {
-    match formed::admit(image) {
-        Err(r) => Err(r),
-        Ok(()) => changes::bound_in(image, variable, side, bound),
-    }
+    formed::admit(image)?;
+    changes::bound_in(image, variable, side, bound)
 }
 
 // Enters a level.
@@ -145,10 +123,8 @@ pub fn enter(image: &mut [u32]) -> Result<(), Refusal>
     ensures result_value { told_reply result ≡ (perform enters image.old).says }
     ensures image_after { image.new ≡ (perform enters image.old).words }
 {
-    match formed::admit(image) {
-        Err(r) => Err(r),
-        Ok(()) => changes::enter_in(image),
-    }
+    formed::admit(image)?;
+    changes::enter_in(image)
 }
 
 // Leaves a level.
@@ -156,10 +132,8 @@ pub fn exit(image: &mut [u32]) -> Result<(), Refusal>
     ensures result_value { told_reply result ≡ (perform exits image.old).says }
     ensures image_after { image.new ≡ (perform exits image.old).words }
 {
-    match formed::admit(image) {
-        Err(r) => Err(r),
-        Ok(()) => changes::exit_in(image),
-    }
+    formed::admit(image)?;
+    changes::exit_in(image)
 }
 
 // Sets a variable's level.
@@ -167,10 +141,8 @@ pub fn set_level(image: &mut [u32], variable: u32, level: u32) -> Result<(), Ref
     ensures result_value { told_reply result ≡ (perform (sets_level variable level) image.old).says }
     ensures image_after { image.new ≡ (perform (sets_level variable level) image.old).words }
 {
-    match formed::admit(image) {
-        Err(r) => Err(r),
-        Ok(()) => changes::level_in(image, variable, level),
-    }
+    formed::admit(image)?;
+    changes::level_in(image, variable, level)
 }
 
 // Opens the question whether sub fits under sup, and works it, at most so many steps; a held question is refused once a question in this
@@ -210,10 +182,8 @@ fn opened(image: &mut [u32], q: Question, budget: u32) -> Result<Instalment, Ref
     ensures result_value_2 { steps_of result ≡ (perform (opens q budget) image.old).steps }
     ensures image_after { image.new ≡ (perform (opens q budget) image.old).words }
 {
-    match formed::admit(image) {
-        Err(r) => Err(r),
-        Ok(()) => questions::open(image, q, budget),
-    }
+    formed::admit(image)?;
+    questions::open(image, q, budget)
 }
 
 // Works the question that is asked, at most so many steps; tells the answer, and the steps of this call.
@@ -224,7 +194,7 @@ pub fn work(image: &mut [u32], budget: u32) -> Instalment
 {
     match formed::admit(image) {
         Err(r) => Instalment {
-            answer: Answer::Refused(r),
+            answer: Err(r),
             steps: 0,
         },
         Ok(()) => questions::work(image, budget),
@@ -236,38 +206,30 @@ pub fn abandon(image: &mut [u32]) -> Result<(), Refusal>
     ensures result_value { told_reply result ≡ (perform abandons image.old).says }
     ensures image_after { image.new ≡ (perform abandons image.old).words }
 {
-    match formed::admit(image) {
-        Err(r) => Err(r),
-        Ok(()) => questions::abandon(image),
-    }
+    formed::admit(image)?;
+    questions::abandon(image)
 }
 
 // Reads an entry out.
 pub fn entry(image: &[u32], n: u32) -> Result<Entry, Refusal>
     ensures { told_entry_read result ≡ (perform (reads_entry n) image.now).says }
 {
-    match formed::admit(image) {
-        Err(r) => Err(r),
-        Ok(()) => reads::entry_in(image, n),
-    }
+    formed::admit(image)?;
+    reads::entry_in(image, n)
 }
 
 // Reads record n of a region, 1 to 6, as it stands.
-pub fn record(image: &[u32], region: u32, n: u32) -> Record
+pub fn record(image: &[u32], region: u32, n: u32) -> Result<Record, Refusal>
     ensures { told_record result ≡ (perform (reads_record region n) image.now).says }
 {
-    match formed::admit(image) {
-        Err(r) => Err(r),
-        Ok(()) => reads::record_in(image, region, n),
-    }
+    formed::admit(image)?;
+    reads::record_in(image, region, n)
 }
 
 // Whether two entries share no value.
 pub fn disjoint(image: &[u32], left: u32, right: u32) -> Result<bool, Refusal>
     ensures { told_disjointness result ≡ (perform (reads_disjoint left right) image.now).says }
 {
-    match formed::admit(image) {
-        Err(r) => Err(r),
-        Ok(()) => reads::disjoint_in(image, left, right),
-    }
+    formed::admit(image)?;
+    reads::disjoint_in(image, left, right)
 }

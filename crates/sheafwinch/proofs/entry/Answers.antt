@@ -1,16 +1,19 @@
 -- `entry`: reads an entry out.
+use Rattle.std.proofs.lemmas.Result.{err_from_is_err_and}
 use mathlib.Core.Path.{◌∙◌, ap}
 use Rattle.model.specs.Calls.{Response, response_of, turn_of, reads_entry}
 use Rattle.turns.proofs.Turning.{unfit, good_image, good}
 use Rattle.sheafwinch.proofs.entry.Goals as goal
 
 pub entry_in-requires : goal.entry_in-requires
-entry_in-requires c = good_image _ c.admit.ensures c.in-Good.is
+entry_in-requires c = good_image _ c.admit.ensures c.in_ok-admit.was
 
-pub returns-in-Unfit : goal.returns-in-Unfit
+pub returns-in_err-admit : goal.returns-in_err-admit
 unfolding response_of
-returns-in-Unfit c = ap (λ (x : Response). x.says) (unfit c.args.image.now c.admit.ensures (reads_entry c.args.n) c.in-Unfit.is)
+returns-in_err-admit c =
+    let e = err_from_is_err_and c.from_residual.result c.from_residual.ensures.1 in
+    rw (e.1, e.2) (ap (λ (x : Response). x.says) (unfit c.args.image.now c.admit.ensures (reads_entry c.args.n) c.in_err-admit.was))
 
-pub returns-in-Good : goal.returns-in-Good
+pub returns : goal.returns
 unfolding turn_of
-returns-in-Good c = c.entry_in.ensures ∙ ap (λ (x : Response). x.says) (good c.args.image.now c.admit.ensures (reads_entry c.args.n) c.in-Good.is)
+returns c = c.entry_in.ensures ∙ ap (λ (x : Response). x.says) (good c.args.image.now c.admit.ensures (reads_entry c.args.n) c.in_ok-admit.was)

@@ -1,29 +1,31 @@
 -- `make_attrset`: makes an attrset with the fields of a list, triples of a name, an entry and optional.
+use Rattle.std.proofs.lemmas.Result.{err_from_is_err_and}
 use Rattle.model.specs.Calls.{turn_of, makes_attrset}
 use Rattle.turns.proofs.Turning.{denied_as, as_same, unfit, good_image, good}
 use Rattle.sheafwinch.proofs.make_attrset.Goals as goal
 
 pub attrset_in-requires : goal.attrset_in-requires
-attrset_in-requires c = good_image _ c.admit.ensures c.in-Good.is
+attrset_in-requires c = good_image _ c.admit.ensures c.in_ok-admit.was
 
-pub returns-in-Unfit-clause-result_value : goal.returns-in-Unfit-clause-result_value
-returns-in-Unfit-clause-result_value c =
-    let k = as_same (unfit c.args.image.now c.admit.ensures (makes_attrset c.args.fields.now c.args.is_open c.args.dynamic) c.in-Unfit.is) (denied_as c.args.image.now _) in
-    k.says
+pub returns-in_err-admit-clause-result_value : goal.returns-in_err-admit-clause-result_value
+returns-in_err-admit-clause-result_value c =
+    let e = err_from_is_err_and c.from_residual.result c.from_residual.ensures.1 in
+    let k = as_same (unfit c.args.image.now c.admit.ensures (makes_attrset c.args.fields.now c.args.is_open c.args.dynamic) c.in_err-admit.was) (denied_as c.args.image.now _) in
+    rw (e.1, e.2) k.says
 
-pub returns-in-Unfit-clause-image_after : goal.returns-in-Unfit-clause-image_after
-returns-in-Unfit-clause-image_after c =
-    let k = as_same (unfit c.args.image.now c.admit.ensures (makes_attrset c.args.fields.now c.args.is_open c.args.dynamic) c.in-Unfit.is) (denied_as c.args.image.now _) in
+pub returns-in_err-admit-clause-image_after : goal.returns-in_err-admit-clause-image_after
+returns-in_err-admit-clause-image_after c =
+    let k = as_same (unfit c.args.image.now c.admit.ensures (makes_attrset c.args.fields.now c.args.is_open c.args.dynamic) c.in_err-admit.was) (denied_as c.args.image.now _) in
     k.leaves
 
-pub returns-in-Good-clause-result_value : goal.returns-in-Good-clause-result_value
+pub returns-clause-result_value : goal.returns-clause-result_value
 unfolding turn_of
-returns-in-Good-clause-result_value c =
-    let k = as_same (good c.args.image.now c.admit.ensures (makes_attrset c.args.fields.now c.args.is_open c.args.dynamic) c.in-Good.is) (record { says = c.attrset_in.ensures.result_value; leaves = c.attrset_in.ensures.image_after }) in
+returns-clause-result_value c =
+    let k = as_same (good c.args.image.now c.admit.ensures (makes_attrset c.args.fields.now c.args.is_open c.args.dynamic) c.in_ok-admit.was) (record { says = c.attrset_in.ensures.result_value; leaves = c.attrset_in.ensures.image_after }) in
     k.says
 
-pub returns-in-Good-clause-image_after : goal.returns-in-Good-clause-image_after
+pub returns-clause-image_after : goal.returns-clause-image_after
 unfolding turn_of
-returns-in-Good-clause-image_after c =
-    let k = as_same (good c.args.image.now c.admit.ensures (makes_attrset c.args.fields.now c.args.is_open c.args.dynamic) c.in-Good.is) (record { says = c.attrset_in.ensures.result_value; leaves = c.attrset_in.ensures.image_after }) in
+returns-clause-image_after c =
+    let k = as_same (good c.args.image.now c.admit.ensures (makes_attrset c.args.fields.now c.args.is_open c.args.dynamic) c.in_ok-admit.was) (record { says = c.attrset_in.ensures.result_value; leaves = c.attrset_in.ensures.image_after }) in
     k.leaves

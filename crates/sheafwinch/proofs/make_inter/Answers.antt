@@ -1,29 +1,31 @@
 -- `make_inter`: makes an intersection.
+use Rattle.std.proofs.lemmas.Result.{err_from_is_err_and}
 use Rattle.model.specs.Calls.{turn_of, makes_inter}
 use Rattle.turns.proofs.Turning.{denied_as, as_same, unfit, good_image, good}
 use Rattle.sheafwinch.proofs.make_inter.Goals as goal
 
 pub two_in-requires : goal.two_in-requires
-two_in-requires c = good_image _ c.admit.ensures c.in-Good.is
+two_in-requires c = good_image _ c.admit.ensures c.in_ok-admit.was
 
-pub returns-in-Unfit-clause-result_value : goal.returns-in-Unfit-clause-result_value
-returns-in-Unfit-clause-result_value c =
-    let k = as_same (unfit c.args.image.now c.admit.ensures (makes_inter c.args.left c.args.right) c.in-Unfit.is) (denied_as c.args.image.now _) in
-    k.says
+pub returns-in_err-admit-clause-result_value : goal.returns-in_err-admit-clause-result_value
+returns-in_err-admit-clause-result_value c =
+    let e = err_from_is_err_and c.from_residual.result c.from_residual.ensures.1 in
+    let k = as_same (unfit c.args.image.now c.admit.ensures (makes_inter c.args.left c.args.right) c.in_err-admit.was) (denied_as c.args.image.now _) in
+    rw (e.1, e.2) k.says
 
-pub returns-in-Unfit-clause-image_after : goal.returns-in-Unfit-clause-image_after
-returns-in-Unfit-clause-image_after c =
-    let k = as_same (unfit c.args.image.now c.admit.ensures (makes_inter c.args.left c.args.right) c.in-Unfit.is) (denied_as c.args.image.now _) in
+pub returns-in_err-admit-clause-image_after : goal.returns-in_err-admit-clause-image_after
+returns-in_err-admit-clause-image_after c =
+    let k = as_same (unfit c.args.image.now c.admit.ensures (makes_inter c.args.left c.args.right) c.in_err-admit.was) (denied_as c.args.image.now _) in
     k.leaves
 
-pub returns-in-Good-clause-result_value : goal.returns-in-Good-clause-result_value
+pub returns-clause-result_value : goal.returns-clause-result_value
 unfolding turn_of
-returns-in-Good-clause-result_value c =
-    let k = as_same (good c.args.image.now c.admit.ensures (makes_inter c.args.left c.args.right) c.in-Good.is) (record { says = c.two_in.ensures.result_value; leaves = c.two_in.ensures.image_after }) in
+returns-clause-result_value c =
+    let k = as_same (good c.args.image.now c.admit.ensures (makes_inter c.args.left c.args.right) c.in_ok-admit.was) (record { says = c.two_in.ensures.result_value; leaves = c.two_in.ensures.image_after }) in
     k.says
 
-pub returns-in-Good-clause-image_after : goal.returns-in-Good-clause-image_after
+pub returns-clause-image_after : goal.returns-clause-image_after
 unfolding turn_of
-returns-in-Good-clause-image_after c =
-    let k = as_same (good c.args.image.now c.admit.ensures (makes_inter c.args.left c.args.right) c.in-Good.is) (record { says = c.two_in.ensures.result_value; leaves = c.two_in.ensures.image_after }) in
+returns-clause-image_after c =
+    let k = as_same (good c.args.image.now c.admit.ensures (makes_inter c.args.left c.args.right) c.in_ok-admit.was) (record { says = c.two_in.ensures.result_value; leaves = c.two_in.ensures.image_after }) in
     k.leaves
