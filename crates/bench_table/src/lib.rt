@@ -4,14 +4,21 @@
 
 ghost use Rattle.std.specs.Prelude.{◌≡◌, length};
 
+use operators::Primitive;
+
 // Its names `__functor`, `x`, `y`: their count, the offsets, and the bytes.
 pub const NAMES: [u8; 21] = *b"\x03\0\0\0\x09\0\x0A\0\x0B\0__functorxy";
 
 // How many entries the image takes, where nothing else is said.
 const ENTRIES: u32 = 24;
 
-// Entries 0 Int, 1 Number, 2 Float, 3 String.
-const PRIMITIVES: [u32; 4] = [2, 7, 3, 4];
+// Entries 0 to 3.
+const PRIMITIVES: [Primitive; 4] = [
+    Primitive::Int,
+    Primitive::Number,
+    Primitive::Float,
+    Primitive::String,
+];
 
 // The fields of entries 8 closed {x: 0}, 9 closed {x: 1}, 10 closed {x: 0, y: 3}: name, entry, and 1 where it is optional.
 const CLOSED: [&[u32]; 3] = [&[1, 0, 0], &[1, 1, 0], &[1, 0, 0, 2, 3, 0]];
@@ -28,11 +35,11 @@ pub fn make_table(words: &mut [u32]) {
     make_with(words, ENTRIES);
 }
 
-// The table in an image that takes so many entries, 7 words for each of them.
+// The table in an image that takes so many entries, 7 words for each of them. A call that is refused adds nothing.
 pub fn make_with(words: &mut [u32], entries: u32) {
     let _ = sheafwinch::start(words, 3, 1, capacities(entries));
     for primitive in PRIMITIVES {
-        let _ = sheafwinch::make_primitive(words, primitive);
+        let _ = sheafwinch::make_primitive(words, primitive as u32);
     }
     // Entries 4 and 5 variables, 6 union(1, 0), 7 neg 0.
     let _ = sheafwinch::make_variable(words);

@@ -7,7 +7,7 @@ mod left;
 mod repeated_bounds;
 
 use bench_table::{NAMES, make_table, make_with, room};
-use left::print_left;
+use left::Left;
 use model::{Instalment, Refusal};
 use std::io;
 use std::io::Write;
@@ -84,7 +84,7 @@ fn print_questions<W: Write>(out: &mut W, words: &mut [u32], line: Line) -> io::
         write!(out, "{label} ({sub},{sup}): ")?;
         print_opening(out, sheafwinch::open(words, held, sub, sup, ALL))?;
     }
-    print_left(out, words)
+    writeln!(out, "\n    {}", Left(words))
 }
 
 // B3 in instalments, the opening among them.
@@ -97,7 +97,7 @@ fn print_budgets<W: Write>(out: &mut W) -> io::Result<()> {
         write!(out, "; ")?;
         print_instalment(out, &NAMES, sheafwinch::work(&mut words, budget))?;
     }
-    print_left(out, &words)
+    writeln!(out, "\n    {}", Left(&words))
 }
 
 // What an opening answers: a refusal, and no steps; or the first instalment.

@@ -2,6 +2,7 @@
 use crate::left::count;
 use image::Capacities;
 use image::format::{BOUNDS, LOWER};
+use operators::Primitive;
 use std::io;
 use std::io::Write;
 
@@ -39,7 +40,7 @@ fn make_entries(words: &mut [u32]) {
     let _ = sheafwinch::start(words, 3, 1, CAPACITIES);
     let _ = sheafwinch::make_variable(words);
     for _ in 0..33 {
-        let _ = sheafwinch::make_primitive(words, 0);
+        let _ = sheafwinch::make_primitive(words, Primitive::Null as u32);
     }
 }
 

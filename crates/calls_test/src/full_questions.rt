@@ -3,6 +3,7 @@
 // started afresh, where the openings work too.
 use crate::script::{Call, room, run};
 use image::Capacities;
+use operators::Primitive;
 use std::alloc::Global;
 use std::io;
 use std::io::Write;
@@ -82,8 +83,8 @@ uN where an opening is refused N, rN+S where a step of its first instalment is, 
 // Starts the image, and makes its entries 0 Int, 1 Number, 2 a variable, 3 lambda(1, 0), 4 lambda(0, 1).
 fn start_afresh(words: &mut [u32], capacities: Capacities) {
     let _ = sheafwinch::start(words, 0, 0, capacities);
-    let _ = sheafwinch::make_primitive(words, 2);
-    let _ = sheafwinch::make_primitive(words, 7);
+    let _ = sheafwinch::make_primitive(words, Primitive::Int as u32);
+    let _ = sheafwinch::make_primitive(words, Primitive::Number as u32);
     let _ = sheafwinch::make_variable(words);
     let _ = sheafwinch::make_lambda(words, 1, 0);
     let _ = sheafwinch::make_lambda(words, 0, 1);

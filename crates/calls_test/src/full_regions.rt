@@ -3,6 +3,7 @@
 use crate::script::{Call, room, run};
 use image::Capacities;
 use image::format::{LOWER, UPPER};
+use operators::Primitive;
 use std::alloc::Global;
 use std::io;
 use std::io::Write;
@@ -12,8 +13,8 @@ use std::io::Write;
 // that need no room.
 const CALLS: [Call; 14] = [
     Call::Variable,
-    Call::Primitive(2),
-    Call::Primitive(4),
+    Call::Primitive(Primitive::Int),
+    Call::Primitive(Primitive::String),
     Call::Inter(1, 2),
     Call::Neg(3),
     Call::Neg(3),

@@ -1,6 +1,7 @@
 // The calls of the small scripts, and what each answers. A call that is refused is held to the words that stood before it.
 use crate::answers::{Answered, Told};
 use image::Capacities;
+use operators::Primitive;
 use std::alloc::{AllocError, Global};
 use std::io;
 use std::io::Write;
@@ -10,7 +11,7 @@ use table_words::size_of;
 #[derive(Clone, Copy)]
 pub enum Call {
     Variable,
-    Primitive(u32),
+    Primitive(Primitive),
     Named(u32, u32),
     Inter(u32, u32),
     Union(u32, u32),
@@ -36,7 +37,7 @@ impl Call {
     fn make(self, words: &mut [u32]) -> Answered {
         match self {
             Call::Variable => sheafwinch::make_variable(words).into(),
-            Call::Primitive(which) => sheafwinch::make_primitive(words, which).into(),
+            Call::Primitive(which) => sheafwinch::make_primitive(words, which as u32).into(),
             Call::Named(inner, label) => sheafwinch::make_named(words, inner, label).into(),
             Call::Inter(left, right) => sheafwinch::make_inter(words, left, right).into(),
             Call::Union(left, right) => sheafwinch::make_union(words, left, right).into(),
