@@ -16,22 +16,15 @@ use Rattle.model.specs.declared.Failure.{Failure}
 use Rattle.model.specs.declared.Failure.TheVariants as F
 use Rattle.model.specs.declared.Answer.{Answer as Worked}
 use Rattle.model.specs.declared.Answer.TheVariants as A
+use Rattle.model.specs.declared.Instalment.{Instalment}
 use Rattle.model.specs.declared.Entry.{Entry}
 use Rattle.model.specs.declared.Entry.TheVariants as E
 use Rattle.model.specs.declared.Record.{Record}
 use Rattle.model.specs.declared.Record.TheVariants as RR
 use Rattle.names.specs.Answers.{told_counted, told_compared, told_found, told_placed}
-use Rattle.names.specs.declared.Counted.{Counted}
-use Rattle.names.specs.declared.Counted.TheVariants as C
-use Rattle.names.specs.declared.Compared.{Compared}
-use Rattle.names.specs.declared.Compared.TheVariants as P
-use Rattle.names.specs.declared.Found.{Found}
-use Rattle.names.specs.declared.Found.TheVariants as N
 use Rattle.names.specs.declared.Placed.{Placed}
-use Rattle.names.specs.declared.Placed.TheVariants as L
-use Rattle.operators.specs.Operators.{told_resolved}
-use Rattle.operators.specs.declared.Resolved.{Resolved}
-use Rattle.operators.specs.declared.Resolved.TheVariants as O
+use Rattle.std.specs.declared.cmp.Ordering.{Ordering}
+use Rattle.operators.specs.Operators.{Resolved, told_resolved}
 use Rattle.capi.specs.Answers.{answer, answer_of}
 use Rattle.capi.specs.declared.Answer.{Answer}
 
@@ -122,11 +115,11 @@ pub failure_in_struct : (f : Failure) → InStruct (told_failure f)
 failure_in_struct (F.Mismatch sub sup) = omega arith
 failure_in_struct (F.MissingField sub sup name) = omega arith
 
-pub worked_in_struct : (r : Worked) → InStruct (told_answer r)
-worked_in_struct A.Yes = omega arith
-worked_in_struct A.More = omega arith
-worked_in_struct (A.Failed f) = failure_in_struct f
-worked_in_struct (A.Refused r) = refusal_in_struct r
+pub worked_in_struct : (r : Result Worked Refusal) → InStruct (told_answer r)
+worked_in_struct (Ok A.Yes) = omega arith
+worked_in_struct (Ok A.More) = omega arith
+worked_in_struct (Ok (A.Failed f)) = failure_in_struct f
+worked_in_struct (Err r) = refusal_in_struct r
 
 pub opening_in_struct : (r : Result Instalment Refusal) → InStruct (told_opening r)
 opening_in_struct (Err r) = unopened_in_struct r
@@ -151,38 +144,37 @@ pub entry_read_in_struct : (r : Result Entry Refusal) → InStruct (told_entry_r
 entry_read_in_struct (Ok e) = entry_in_struct e
 entry_read_in_struct (Err r) = refusal_in_struct r
 
-pub record_in_struct : (r : Record) → InStruct (told_record r)
-record_in_struct (RR.Entry kind x y z flags spread negation) = omega arith
-record_in_struct (RR.Field name entry optional) = omega arith
-record_in_struct (RR.Bound variable side bound) = omega arith
-record_in_struct (RR.Visited sub sup) = omega arith
-record_in_struct (RR.Pending sub sup) = omega arith
-record_in_struct (RR.Equal left right) = omega arith
-record_in_struct (RR.Refused r) = refusal_in_struct r
+pub record_in_struct : (r : Result Record Refusal) → InStruct (told_record r)
+record_in_struct (Ok (RR.Entry kind x y z flags spread negation)) = omega arith
+record_in_struct (Ok (RR.Field name entry optional)) = omega arith
+record_in_struct (Ok (RR.Bound variable side bound)) = omega arith
+record_in_struct (Ok (RR.Visited sub sup)) = omega arith
+record_in_struct (Ok (RR.Pending sub sup)) = omega arith
+record_in_struct (Ok (RR.Equal left right)) = omega arith
+record_in_struct (Err r) = refusal_in_struct r
 
 pub disjointness_in_struct : (r : Result Bool Refusal) → InStruct (told_disjointness r)
-disjointness_in_struct (Ok true) = omega arith
-disjointness_in_struct (Ok false) = omega arith
+disjointness_in_struct (Ok disjoint) = omega arith
 disjointness_in_struct (Err r) = refusal_in_struct r
 
-pub counted_in_struct : (r : Counted) → InStruct (told_counted r)
-counted_in_struct (C.Count n) = omega arith
-counted_in_struct (C.Refused r) = refusal_in_struct r
+pub counted_in_struct : (r : Result ℕ Refusal) → InStruct (told_counted r)
+counted_in_struct (Ok n) = omega arith
+counted_in_struct (Err r) = refusal_in_struct r
 
-pub compared_in_struct : (r : Compared) → InStruct (told_compared r)
-compared_in_struct (P.Order o) = omega arith
-compared_in_struct (P.Refused r) = refusal_in_struct r
+pub compared_in_struct : (r : Result Ordering Refusal) → InStruct (told_compared r)
+compared_in_struct (Ok o) = omega arith
+compared_in_struct (Err r) = refusal_in_struct r
 
-pub found_in_struct : (r : Found) → InStruct (told_found r)
-found_in_struct (N.At n) = omega arith
-found_in_struct N.Absent = omega arith
-found_in_struct (N.Refused r) = refusal_in_struct r
+pub found_in_struct : (r : Result (Option ℕ) Refusal) → InStruct (told_found r)
+found_in_struct (Ok (Some n)) = omega arith
+found_in_struct (Ok None) = omega arith
+found_in_struct (Err r) = refusal_in_struct r
 
-pub placed_in_struct : (r : Placed) → InStruct (told_placed r)
-placed_in_struct (L.At start bytes) = omega arith
-placed_in_struct (L.Refused r) = refusal_in_struct r
+pub placed_in_struct : (r : Result Placed Refusal) → InStruct (told_placed r)
+placed_in_struct (Ok p) = omega arith
+placed_in_struct (Err r) = refusal_in_struct r
 
 pub resolved_in_struct : (r : Resolved) → InStruct (told_resolved r)
-resolved_in_struct (O.Primitive p) = omega arith
-resolved_in_struct O.None = omega arith
-resolved_in_struct (O.Refused r) = refusal_in_struct r
+resolved_in_struct (Ok (Some p)) = omega arith
+resolved_in_struct (Ok None) = omega arith
+resolved_in_struct (Err r) = refusal_in_struct r

@@ -1,14 +1,14 @@
 // Answers as C gets them: each enum's cases with 01's number and values.
 ghost use Rattle.std.specs.Prelude.{◌≡◌, [], ◌∷◌};
 ghost use Rattle.model.specs.Told.{done, bit, number_of, carried, carried_values, told_refusal, told_unopened, told_failure, told_reply, told_made, told_answer, told_opening, steps_of, told_attrset, told_entry, told_entry_read, told_record, told_disjointness};
-ghost use Rattle.names.specs.Answers.{told_counted, told_order, told_compared, told_found, told_placed};
+ghost use Rattle.names.specs.Answers.{told_counted, told_compared, told_found, told_placed};
 ghost use Rattle.operators.specs.Operators.{told_resolved};
 ghost use Rattle.capi.specs.Answers.{answer, answer_of};
 
 use crate::Answer;
 use model::{Attrset, Carried, Entry, Failure, Instalment, Record, Refusal};
-use names::{Compared, Counted, Found, Order, Placed};
-use operators::Resolved;
+use names::Placed;
+use std::cmp::Ordering;
 
 // An answer's kind.
 const DONE: u32 = 0;
@@ -205,7 +205,7 @@ fn of_failure(steps: u32, failure: Failure) -> Answer
 }
 
 // What a call answers that has nothing else to say.
-pub fn of_reply(reply: Reply) -> Answer
+pub fn of_reply(reply: Result<(), Refusal>) -> Answer
     ensures { result ≡ answer_of 0 (told_reply reply) }
 {
     match reply {
@@ -215,7 +215,7 @@ pub fn of_reply(reply: Reply) -> Answer
 }
 
 // What a make answers.
-pub fn of_made(made: Made) -> Answer
+pub fn of_made(made: Result<u32, Refusal>) -> Answer
     ensures { result ≡ answer_of 0 (told_made made) }
 {
     match made {
@@ -229,17 +229,16 @@ pub fn of_instalment(instalment: Instalment) -> Answer
     ensures { result ≡ answer_of instalment.steps (told_answer instalment.answer) }
 {
     let steps = instalment.steps;
-    let answer = instalment.answer;
-    match answer {
-        model::Answer::Yes => none(YES, 0, steps),
-        model::Answer::More => none(MORE, 0, steps),
-        model::Answer::Failed(failure) => of_failure(steps, failure),
-        model::Answer::Refused(refusal) => of_refusal(steps, refusal),
+    match instalment.answer {
+        Ok(model::Answer::Yes) => none(YES, 0, steps),
+        Ok(model::Answer::More) => none(MORE, 0, steps),
+        Ok(model::Answer::Failed(failure)) => of_failure(steps, failure),
+        Err(refusal) => of_refusal(steps, refusal),
     }
 }
 
 // What an opening answers.
-pub fn of_opening(opening: Opening) -> Answer
+pub fn of_opening(opening: Result<Instalment, Refusal>) -> Answer
     ensures { result ≡ answer_of (steps_of opening) (told_opening opening) }
 {
     match opening {
@@ -287,7 +286,7 @@ fn of_entry(entry: Entry) -> Answer
 }
 
 // What the read of an entry answers.
-pub fn of_entry_read(read: EntryRead) -> Answer
+pub fn of_entry_read(read: Result<Entry, Refusal>) -> Answer
     ensures { result ≡ answer_of 0 (told_entry_read read) }
 {
     match read {
@@ -297,106 +296,102 @@ pub fn of_entry_read(read: EntryRead) -> Answer
 }
 
 // What the read of a record answers.
-pub fn of_record(read: Record) -> Answer
+pub fn of_record(read: Result<Record, Refusal>) -> Answer
     ensures { result ≡ answer_of 0 (told_record read) }
 {
     match read {
-        Record::Entry {
-            kind,
-            x,
-            y,
-            z,
-            flags,
-            spread,
-            negation,
-        } => eight(1, kind, x, y, z, flags, spread, negation),
-        Record::Field {
-            name,
-            entry,
-            optional,
-        } => four(DONE, 0, 0, 2, name, entry, optional),
-        Record::Bound {
-            variable,
-            side,
-            bound,
-        } => four(DONE, 0, 0, 3, variable, side, bound),
-        Record::Visited { sub, sup } => three(DONE, 0, 0, 4, sub, sup),
-        Record::Pending { sub, sup } => three(DONE, 0, 0, 5, sub, sup),
-        Record::Equal { left, right } => three(DONE, 0, 0, 6, left, right),
+        Ok(
+            Record::Entry {
+                kind,
+                x,
+                y,
+                z,
+                flags,
+                spread,
+                negation,
+            },
+        ) => eight(1, kind, x, y, z, flags, spread, negation),
+        Ok(
+            Record::Field {
+                name,
+                entry,
+                optional,
+            },
+        ) => four(DONE, 0, 0, 2, name, entry, optional),
+        Ok(
+            Record::Bound {
+                variable,
+                side,
+                bound,
+            },
+        ) => four(DONE, 0, 0, 3, variable, side, bound),
+        Ok(Record::Visited { sub, sup }) => three(DONE, 0, 0, 4, sub, sup),
+        Ok(Record::Pending { sub, sup }) => three(DONE, 0, 0, 5, sub, sup),
+        Ok(Record::Equal { left, right }) => three(DONE, 0, 0, 6, left, right),
         Err(refusal) => of_refusal(0, refusal),
     }
 }
 
 // What the disjointness read answers.
-pub fn of_disjointness(disjointness: Disjointness) -> Answer
+pub fn of_disjointness(disjointness: Result<bool, Refusal>) -> Answer
     ensures { result ≡ answer_of 0 (told_disjointness disjointness) }
 {
     match disjointness {
-        Ok(true) => one(DONE, 0, 0, 1),
-        Ok(false) => one(DONE, 0, 0, 0),
+        Ok(disjoint) => one(DONE, 0, 0, bit_of(disjoint)),
         Err(refusal) => of_refusal(0, refusal),
     }
 }
 
 // What the count of names answers.
-pub fn of_counted(counted: Counted) -> Answer
+pub fn of_counted(counted: Result<u32, Refusal>) -> Answer
     ensures { result ≡ answer_of 0 (told_counted counted) }
 {
     match counted {
-        Counted::Count(n) => one(DONE, 0, 0, n),
-        Counted::Refused(refusal) => of_refusal(0, refusal),
+        Ok(n) => one(DONE, 0, 0, n),
+        Err(refusal) => of_refusal(0, refusal),
     }
 }
 
-// An order: 0 before, 1 same, 2 after.
-fn of_order(order: Order) -> Answer
-    ensures { result ≡ answer_of 0 (done (told_order order ∷ [])) }
-{
-    match order {
-        Order::Before => one(DONE, 0, 0, 0),
-        Order::Same => one(DONE, 0, 0, 1),
-        Order::After => one(DONE, 0, 0, 2),
-    }
-}
-
-// What the comparison of two names answers.
-pub fn of_compared(compared: Compared) -> Answer
+// What the comparison of two names answers: 0 before, 1 same, 2 after.
+pub fn of_compared(compared: Result<Ordering, Refusal>) -> Answer
     ensures { result ≡ answer_of 0 (told_compared compared) }
 {
     match compared {
-        Compared::Order(order) => of_order(order),
-        Compared::Refused(refusal) => of_refusal(0, refusal),
+        Ok(Ordering::Less) => one(DONE, 0, 0, 0),
+        Ok(Ordering::Equal) => one(DONE, 0, 0, 1),
+        Ok(Ordering::Greater) => one(DONE, 0, 0, 2),
+        Err(refusal) => of_refusal(0, refusal),
     }
 }
 
 // What the search for a name answers.
-pub fn of_found(found: Found) -> Answer
+pub fn of_found(found: Result<Option<u32>, Refusal>) -> Answer
     ensures { result ≡ answer_of 0 (told_found found) }
 {
     match found {
-        Found::At(n) => one(DONE, 0, 0, n),
-        Found::Absent => none(DONE, 0, 0),
-        Found::Refused(refusal) => of_refusal(0, refusal),
+        Ok(Some(n)) => one(DONE, 0, 0, n),
+        Ok(None) => none(DONE, 0, 0),
+        Err(refusal) => of_refusal(0, refusal),
     }
 }
 
 // What the call for a name's place answers.
-pub fn of_placed(placed: Placed) -> Answer
+pub fn of_placed(placed: Result<Placed, Refusal>) -> Answer
     ensures { result ≡ answer_of 0 (told_placed placed) }
 {
     match placed {
-        Placed::At { start, bytes } => two(DONE, 0, 0, start, bytes),
-        Placed::Refused(refusal) => of_refusal(0, refusal),
+        Ok(Placed { start, bytes }) => two(DONE, 0, 0, start, bytes),
+        Err(refusal) => of_refusal(0, refusal),
     }
 }
 
 // What an operator call answers.
-pub fn of_resolved(resolved: Resolved) -> Answer
+pub fn of_resolved(resolved: Result<Option<u32>, Refusal>) -> Answer
     ensures { result ≡ answer_of 0 (told_resolved resolved) }
 {
     match resolved {
-        Resolved::Primitive(p) => one(DONE, 0, 0, p),
-        Resolved::None => none(DONE, 0, 0),
-        Resolved::Refused(refusal) => of_refusal(0, refusal),
+        Ok(Some(p)) => one(DONE, 0, 0, p),
+        Ok(None) => none(DONE, 0, 0),
+        Err(refusal) => of_refusal(0, refusal),
     }
 }

@@ -14,7 +14,6 @@ ghost use Rattle.names.specs.Names.{check_names, check_name, count_names, compar
 ghost use Rattle.operators.specs.Operators.{told_resolved, resolved, from_left, at_once};
 ghost use Rattle.capi.specs.Answers.{answer_of, flag_of, dynamic_of, capacities_of};
 
-
 // An answer: its kind, 01's number of a refusal or a failure, the steps of this call, and so many values.
 #[repr(C)]
 #[derive(Drop)]
@@ -53,13 +52,10 @@ fn flag(word: u32) -> bool
 }
 
 // A dynamic type, where there is one.
-fn dynamic_of(has: u32, n: u32) -> Dynamic
+fn dynamic_of(has: u32, n: u32) -> Option<u32>
     ensures { result ≡ dynamic_of has n }
 {
-    if flag(has) {
-        return Some(n);
-    }
-    None
+    if flag(has) { Some(n) } else { None }
 }
 
 // Whether the words are a well formed image.
