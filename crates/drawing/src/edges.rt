@@ -1,6 +1,6 @@
 // Components, bounds, pairs asked equal and the pair that failed, as edges.
 use crate::Drawing;
-use model::{Attrset, Dynamic, Failure};
+use model::{Attrset, Failure};
 use std::io;
 use std::io::Write;
 use table_words::{Bound, Entry, Equal, Field, Stored, each};
@@ -43,11 +43,11 @@ impl<'a, W: Write> Drawing<'a, W> {
             self.draw_field(owner, Field::read(self.image, n))?;
         }
         match attrset.dynamic {
-            Dynamic::Present(dynamic) => {
+            Some(dynamic) => {
                 self.begin(owner, dynamic)?;
                 writeln!(self.out, "_\", arrowhead=ediamond];")
             }
-            Dynamic::Absent => Ok(()),
+            None => Ok(()),
         }
     }
 

@@ -10,7 +10,6 @@ mod nodes;
 
 use model::Failure;
 use name::Name;
-use names::Counted;
 use std::io;
 use std::io::Write;
 use table_words::Header;
@@ -36,10 +35,7 @@ pub fn draw<W: Write>(out: &mut W, list: &[u8], image: &[u32]) -> io::Result<()>
 
 // Whether the list is well formed and has as many names as the image.
 fn names_fit(list: &[u8], header: Header) -> bool {
-    match names::count(list) {
-        Counted::Count(n) => n == header.names,
-        Counted::Refused(_) => false,
-    }
+    names::count(list) == Ok(header.names)
 }
 
 // A well formed image, and where it is drawn; with the list's names, where they are the image's, else with no list, so by number.

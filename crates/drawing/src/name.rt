@@ -1,7 +1,6 @@
 // A name's bytes in a label. What is shown has printable ASCII alone and tells the name exactly: a backslash is shown as two, and each
 // byte that is not printable as \xNN. Between DOT's quotes a backslash is written twice and a quote behind one; an ampersand would
 // begin one of HTML's characters.
-use model::Reply;
 use std::fmt;
 
 // A name, or its number where the list has no such name.
@@ -15,8 +14,8 @@ impl fmt::Display for Name<'_> {
     fn fmt<W: fmt::Write>(&self, f: &mut fmt::Formatter<W>) -> fmt::Result {
         let number = self.number;
         match names::check_name(self.list, number) {
-            Reply::Done => write_text(f, names::show(self.list, number)),
-            Reply::Refused(_) => write!(f, "name {number}"),
+            Ok(()) => write_text(f, names::show(self.list, number)),
+            Err(_) => write!(f, "name {number}"),
         }
     }
 }

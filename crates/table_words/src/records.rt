@@ -3,7 +3,7 @@ ghost use Rattle.std.specs.Prelude.{◌≡◌, ℕ, ◌-◌, ◌≤◌, slice_in
 ghost use Rattle.std.specs.Iterator.{at_most};
 
 use crate::{wide, word};
-use model::{Attrset, Dynamic};
+use model::Attrset;
 use std::array;
 use std::marker::PhantomData;
 
@@ -76,7 +76,7 @@ impl From<Entry> for model::Entry {
                 first: e.x,
                 count: e.y,
                 is_open: image::says_open(e.flags),
-                dynamic: dynamic(e),
+                dynamic: image::says_dynamic(e.flags).then_some(e.z),
             }),
             image::format::NAMED => model::Entry::Named {
                 inner: e.x,
@@ -86,15 +86,6 @@ impl From<Entry> for model::Entry {
             image::format::INTER => model::Entry::Inter(e.x, e.y),
             _ => model::Entry::Union(e.x, e.y),
         }
-    }
-}
-
-// An attrset's dynamic type.
-fn dynamic(e: Entry) -> Dynamic {
-    if image::says_dynamic(e.flags) {
-        Dynamic::Present(e.z)
-    } else {
-        Dynamic::Absent
     }
 }
 

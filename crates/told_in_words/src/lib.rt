@@ -92,14 +92,14 @@ impl fmt::Display for Named {
     }
 }
 
-// An answer, and the steps of its instalment.
+// An answer or the refusal of a step, and the steps of its instalment.
 pub fn print_instalment<W: Write>(out: &mut W, list: &[u8], done: Instalment) -> io::Result<()> {
     let Instalment { answer, steps } = done;
     match answer {
-        Answer::Yes => write!(out, "yes")?,
-        Answer::More => write!(out, "MORE")?,
-        Answer::Failed(f) => print_failure(out, list, f)?,
-        Answer::Refused(r) => print_refusal(out, list, r)?,
+        Ok(Answer::Yes) => write!(out, "yes")?,
+        Ok(Answer::More) => write!(out, "MORE")?,
+        Ok(Answer::Failed(f)) => print_failure(out, list, f)?,
+        Err(r) => print_refusal(out, list, r)?,
     }
     if steps == 1 {
         write!(out, ", 1 step")
@@ -147,20 +147,3 @@ fn kept_failure(kind: u32, sub: u32, sup: u32, name: u32) -> Failure {
         Failure::Mismatch { sub, sup }
     }
 }
-
-// A refusal's number and name in 01.
-pub fn write_refusal<W: Write>(out: &mut W, r: Refusal) -> io::Result<()> {
-    let named = Named(r);
-    write!(out, "{named}")
-}
-
-// A region's name; nothing where the number is none's.
-pub fn write_region<W: Write>(out: &mut W, region: u32) -> io::Result<()> {
-    match Region::try_from(region) {
-        Ok(region) => write!(out, "{region}"),
-        Err(NoRegion) => Ok(()),
-    }
-}
-
-// The regions' names, in the order of their numbers from 1 on, with a bar between two of them.
-pub const REGIONS: [u8; 44] = *b"entries|fields|bounds|visited|pending|equals";
