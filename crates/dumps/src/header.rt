@@ -1,57 +1,48 @@
 // The table's header.
-use printing::{write, write_each, write_one, write_three, write_two, write_word};
+use crate::shown::Shown;
 use script_names::answers::print_break;
 use std::io;
 use std::io::Write;
-use table_words::{counts, word};
+use table_words::Header;
 
-// `state`: the header in one line.
-pub fn tell_state<W: Write>(out: &mut W, names: &[u8], words: &[u32]) -> io::Result<()> {
-    write_word(out, b"idle|asked", word(words, image::format::STATE_AT))?;
-    write_one(out, b" level %", word(words, image::format::LEVEL_AT))?;
-    print_broken(out, names, words)?;
-    write_two(
-        out,
-        b" names % functor %",
-        word(words, image::format::NAMES_AT),
-        word(words, image::format::FUNCTOR_AT),
-    )?;
-    print_regions(out, words)
+impl<'a> Shown<'a> {
+    // `state`: the header in one line.
+    pub fn tell_state<W: Write>(self, out: &mut W) -> io::Result<()> {
+        let header = Header::from(self.words);
+        let state = if header.is_asked { "asked" } else { "idle" };
+        let level = header.level;
+        write!(out, "{state} level {level} break ")?;
+        match header.broken {
+            None => write!(out, "none")?,
+            Some(failure) => print_break(out, self.names, failure)?,
+        }
+        write!(out, " names {} functor {}", header.names, header.functor)?;
+        print_regions(out, header)
+    }
+
+    // `count`: how many entries, bounds and visited pairs there are.
+    pub fn tell_count<W: Write>(self, out: &mut W) -> io::Result<()> {
+        let counts = Header::from(self.words).counts;
+        writeln!(
+            out,
+            "entries {} bounds {} visited {}",
+            counts.entries, counts.bounds, counts.visited
+        )
+    }
 }
 
 // Each region's count and capacity.
-fn print_regions<W: Write>(out: &mut W, words: &[u32]) -> io::Result<()> {
-    let n = counts(words);
-    let c = table_words::capacities(words);
-    let numbers = [
-        n[0], c[0], n[1], c[1], n[2], c[2], n[3], c[3], n[4], c[4], n[5], c[5],
-    ];
-    write_each(
+fn print_regions<W: Write>(out: &mut W, header: Header) -> io::Result<()> {
+    let n = header.counts;
+    let c = header.capacities;
+    write!(
         out,
-        b" entries %/% fields %/% bounds %/% visited %/% pending %/% equals %/%\n",
-        &numbers,
-    )
-}
-
-// The break words.
-fn print_broken<W: Write>(out: &mut W, names: &[u8], words: &[u32]) -> io::Result<()> {
-    let kind = word(words, image::format::BREAK_KIND_AT);
-    if kind == image::format::UNBROKEN {
-        return write(out, b" break none");
-    }
-    write(out, b" break ")?;
-    print_break(
+        " entries {}/{} fields {}/{} bounds {}/{}",
+        n.entries, c.entries, n.fields, c.fields, n.bounds, c.bounds
+    )?;
+    writeln!(
         out,
-        names,
-        kind,
-        word(words, image::format::BREAK_SUB_AT),
-        word(words, image::format::BREAK_SUP_AT),
-        word(words, image::format::BREAK_NAME_AT),
+        " visited {}/{} pending {}/{} equals {}/{}",
+        n.visited, c.visited, n.pending, c.pending, n.equals, c.equals
     )
-}
-
-// `count`: how many entries, bounds and visited pairs there are.
-pub fn tell_count<W: Write>(out: &mut W, words: &[u32]) -> io::Result<()> {
-    let n = counts(words);
-    write_three(out, b"entries % bounds % visited %\n", n[0], n[2], n[3])
 }

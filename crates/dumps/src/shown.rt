@@ -1,126 +1,85 @@
 // Entries as a dump shows them: kind number first, as in 01, then what the kind has.
-use printing::{write, write_number, write_one, write_two};
-use script::print::print_next;
+use model::Attrset;
 use script_names::labels::print_label;
 use std::io;
 use std::io::Write;
-use table_words::{entry_word, field_word};
+use table_words::{Entry, Field, Stored};
 
-// An entry's kind and what it has.
-pub fn print_entry<W: Write>(
-    out: &mut W,
-    text: &[u8],
-    desk: &[u32; 10256],
-    names: &[u8],
-    words: &[u32],
-    n: u32,
-) -> io::Result<()> {
-    let kind = entry_word(words, n, image::format::KIND_WORD);
-    let x = entry_word(words, n, image::format::X_WORD);
-    write_number(out, kind)?;
-    match kind {
-        image::format::ATTRSET => print_attrset(out, names, words, n),
-        image::format::NAMED => print_named(
-            out,
-            text,
-            desk,
-            x,
-            entry_word(words, n, image::format::Y_WORD),
-        ),
-        image::format::LAMBDA | image::format::INTER | image::format::UNION => {
-            write_two(out, b" % %", x, entry_word(words, n, image::format::Y_WORD))
+// A table's words, and what its labels and names are called.
+#[derive(Clone, Copy)]
+pub struct Shown<'a> {
+    pub labels: &'a [&'a [u8]],
+    pub names: &'a [u8],
+    pub words: &'a [u32],
+}
+
+impl<'a> Shown<'a> {
+    // An entry's kind and what it has.
+    pub fn print_entry<W: Write>(self, out: &mut W, n: u32) -> io::Result<()> {
+        let entry = Entry::read(self.words, n);
+        let kind = entry.kind;
+        write!(out, "{kind}")?;
+        match model::Entry::from(entry) {
+            model::Entry::Variable { level } => write!(out, " {level}"),
+            model::Entry::Primitive(x) | model::Entry::List(x) | model::Entry::Neg(x) => {
+                write!(out, " {x}")
+            }
+            model::Entry::Lambda { param, body } => write!(out, " {param} {body}"),
+            model::Entry::AttrSet(attrset) => self.print_attrset(out, attrset),
+            model::Entry::Named { inner, label } => {
+                write!(out, " {inner} ")?;
+                print_label(out, self.labels, label)
+            }
+            model::Entry::Inter(left, right) | model::Entry::Union(left, right) => {
+                write!(out, " {left} {right}")
+            }
         }
-        _ => print_next(out, x),
     }
-}
 
-// A named entry.
-fn print_named<W: Write>(
-    out: &mut W,
-    text: &[u8],
-    desk: &[u32; 10256],
-    inner: u32,
-    label: u32,
-) -> io::Result<()> {
-    write_one(out, b" % ", inner)?;
-    print_label(out, text, desk, label)
-}
-
-// An attrset: whether it is open, its dynamic type, its fields.
-fn print_attrset<W: Write>(out: &mut W, names: &[u8], words: &[u32], n: u32) -> io::Result<()> {
-    let flags = entry_word(words, n, image::format::FLAGS_WORD);
-    print_flag(out, image::says_open(flags))?;
-    print_dynamic(out, flags, entry_word(words, n, image::format::Z_WORD))?;
-    let first = entry_word(words, n, image::format::X_WORD);
-    let count = entry_word(words, n, image::format::Y_WORD);
-    print_next(out, count)?;
-    print_fields(out, names, words, first, count)
-}
-
-// A dynamic type, -1 where there is none.
-fn print_dynamic<W: Write>(out: &mut W, flags: u32, dynamic: u32) -> io::Result<()> {
-    if image::says_dynamic(flags) {
-        print_next(out, dynamic)
-    } else {
-        write(out, b" -1")
+    // An attrset: whether it is open, its dynamic type, -1 where there is none, its fields.
+    fn print_attrset<W: Write>(self, out: &mut W, attrset: Attrset) -> io::Result<()> {
+        let Attrset {
+            first,
+            count,
+            is_open,
+            dynamic,
+        } = attrset;
+        let open = u32::from(is_open);
+        match dynamic {
+            Some(n) => write!(out, " {open} {n} {count}")?,
+            None => write!(out, " {open} -1 {count}")?,
+        }
+        for n in first..first.saturating_add(count) {
+            self.print_field(out, Field::read(self.words, n))?;
+        }
+        Ok(())
     }
-}
 
-// What a flag says: 1 or 0.
-fn print_flag<W: Write>(out: &mut W, is_set: bool) -> io::Result<()> {
-    let n = if is_set { 1 } else { 0 };
-    print_next(out, n)
-}
-
-// So many fields from a record on.
-fn print_fields<W: Write>(
-    out: &mut W,
-    names: &[u8],
-    words: &[u32],
-    first: u32,
-    count: u32,
-) -> io::Result<()> {
-    for i in 0..count {
-        print_field(out, names, words, first.wrapping_add(i))?;
+    // A field: its name, its entry, whether it is optional.
+    fn print_field<W: Write>(self, out: &mut W, field: Field) -> io::Result<()> {
+        let Field {
+            name,
+            entry,
+            optional,
+        } = field;
+        write!(out, " ")?;
+        out.write_all(names::show(self.names, name))?;
+        write!(out, " {entry} {optional}")
     }
-    Ok(())
-}
 
-// A field: its name, its entry, whether it is optional.
-fn print_field<W: Write>(out: &mut W, names: &[u8], words: &[u32], n: u32) -> io::Result<()> {
-    write(out, b" ")?;
-    write(
-        out,
-        names::show(names, field_word(words, n, image::format::NAME_WORD)),
-    )?;
-    print_next(out, field_word(words, n, image::format::ENTRY_WORD))?;
-    print_next(out, field_word(words, n, image::format::OPTIONAL_WORD))
-}
-
-// A dump's line of an entry.
-pub fn tell_entry<W: Write>(
-    out: &mut W,
-    text: &[u8],
-    desk: &[u32; 10256],
-    names: &[u8],
-    words: &[u32],
-    n: u32,
-) -> io::Result<()> {
-    write_one(out, b"e % m", n)?;
-    print_flag(
-        out,
-        image::says_mark(entry_word(words, n, image::format::FLAGS_WORD)),
-    )?;
-    print_negation(out, entry_word(words, n, image::format::NEGATION_WORD))?;
-    print_entry(out, text, desk, names, words, n)?;
-    write(out, b"\n")
-}
-
-// The number of a negation that is cached, else -1; then the entry is told.
-fn print_negation<W: Write>(out: &mut W, negation: u32) -> io::Result<()> {
-    if negation == 0 {
-        write(out, b" n -1 : ")
-    } else {
-        write_one(out, b" n % : ", negation - 1)
+    // A dump's line of an entry: its mark, the number of its negation, -1 where none is cached, and the entry.
+    pub fn tell_entry<W: Write>(self, out: &mut W, n: u32) -> io::Result<()> {
+        let Entry {
+            flags,
+            negation,
+            ..
+        } = Entry::read(self.words, n);
+        let mark = u32::from(image::says_mark(flags));
+        match negation.checked_sub(1) {
+            Some(negation) => write!(out, "e {n} m {mark} n {negation} : ")?,
+            None => write!(out, "e {n} m {mark} n -1 : ")?,
+        }
+        self.print_entry(out, n)?;
+        writeln!(out)
     }
 }
