@@ -5,72 +5,36 @@
 
 #![tactic(auto)]
 
-mod compared;
-mod dumped;
-mod fields_met;
-mod held;
-mod lines;
-mod makes;
-mod questions_asked;
-mod rule_numbers;
+mod dump;
+mod line;
+mod question;
+mod replay;
+mod report;
+mod rule;
 mod rules;
-mod searches;
-mod tables;
+mod table;
 mod tally;
 
-ghost use Rattle.std.specs.Prelude.{◌≤◌, length, IfOk};
-
+use line::Line;
+use replay::Replay;
 use std::io;
-use std::io::{Read, Write};
+use std::io::Read;
 
 // More blocks than the file has.
 const BLOCKS: u32 = 100;
 
+// A block's bytes. No line goes over a block's end: empty lines fill a block up.
+const BLOCK_BYTES: u64 = 65536;
+
 fn main(rt: HostRuntime) -> io::Result<()> {
     let mut input = rt.stdin();
-    let mut out = rt.stdout();
-    let mut words = tables::room();
-    let mut tally = [0u32; 96];
-    replay_blocks(&mut input, &mut out, &mut words, &mut tally)?;
-    tally::print_tally(&mut out, &mut tally)
-}
-
-// Every block of the input.
-fn replay_blocks<R: Read, W: Write>(
-    input: &mut R,
-    out: &mut W,
-    words: &mut [u32],
-    tally: &mut [u32; 96],
-) -> io::Result<()> {
+    let mut replay = Replay::new(rt.alloc(), rt.stdout())?;
+    let mut line = Line::new(rt.alloc());
+    let mut block = Vec::new(rt.alloc());
     for _ in 0..BLOCKS {
-        replay_block(input, out, words, tally)?;
+        block.clear();
+        input.by_ref().take(BLOCK_BYTES).read_to_end(&mut block)?;
+        replay.run(&block, &mut line)?;
     }
-    Ok(())
-}
-
-// A block of 65,536 bytes. No line goes over a block's end: empty lines fill a block up.
-fn replay_block<R: Read, W: Write>(
-    input: &mut R,
-    out: &mut W,
-    words: &mut [u32],
-    tally: &mut [u32; 96],
-) -> io::Result<()> {
-    let mut text = [0u8; 65536];
-    let size = fill(input, &mut text)?;
-    lines::replay(out, &text[..size], words, tally)
-}
-
-// Reads until the bytes are full or the input ends, and tells how many it read.
-fn fill<R: Read>(input: &mut R, text: &mut [u8]) -> io::Result<usize>
-    ensures { IfOk result (λ n. n ≤ length text.new) }
-{
-    let mut size: usize = 0;
-    while size < text.len() {
-        let n = input.read(&mut text[size..])?;
-        if n == 0 {
-            break;
-        }
-        size += n;
-    }
-    Ok(size)
+    replay.report.print_tally()
 }

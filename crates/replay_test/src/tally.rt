@@ -1,137 +1,125 @@
 // What is counted while the scripts run.
-use printing::write_each;
-use std::io;
-use std::io::Write;
+use crate::rule::{Rule, Side, WITH_VARIABLE, WITHOUT};
+use std::alloc::{AllocError, Global};
+use std::collections::BTreeMap;
+use std::fmt;
 
-// Where the tally has each count, first those that are printed, in that order. Scripts and questions.
-pub const SCRIPTS: usize = 0;
-
-pub const QUESTIONS: usize = 1;
-
-// Answers, from yes on: yes, more, mismatch, missing field.
-pub const ANSWERS: usize = 2;
-
-// Instalments, steps and differences.
-pub const INSTALMENTS: usize = 6;
-
-pub const STEPS: usize = 7;
-
-pub const DIFFERENCES: usize = 8;
-
-// From 9 on it has the rules: crate::rules. Among these what is a difference of other counts: bounds that were there, marks passed on,
-// and pairs that no rule worked.
-pub const RULES: usize = 9;
-
-pub const REPEATED: usize = 12;
-
-pub const PASSED: usize = 13;
-
-pub const IDLE: usize = 14;
-
-// Not printed: lines; the visited pairs of all scripts; bounds and marks that the scripts put, and those that stood at their ends.
-pub const LINES: usize = 58;
-
-pub const VISITED: usize = 59;
-
-pub const BOUNDS_PUT: usize = 60;
-
-pub const BOUNDS: usize = 61;
-
-pub const MARKS_PUT: usize = 62;
-
-pub const MARKS: usize = 63;
-
-// In a dump, how many lines there were of entries, bounds, visited pairs and equals.
-pub const ENTRY_LINES: usize = 64;
-
-pub const BOUND_LINES: usize = 65;
-
-pub const VISITED_LINES: usize = 66;
-
-pub const EQUAL_LINES: usize = 67;
-
-// The variable and the side of the last bound line, and the record after the one that it met.
-pub const BOUND_VARIABLE: usize = 68;
-
-pub const BOUND_SIDE: usize = 69;
-
-pub const BOUND_NEXT: usize = 70;
+// Bounds and marks: those that the scripts put, and those that stood at their ends.
+#[derive(Drop)]
+pub struct Tally {
+    pub lines: u32,
+    pub scripts: u32,
+    pub questions: u32,
+    pub yes: u32,
+    pub stopped: u32,
+    pub mismatches: u32,
+    pub missing: u32,
+    pub instalments: u32,
+    pub steps: u32,
+    pub differences: u32,
+    pub visited: u32,
+    pub bounds_put: u32,
+    pub bounds: u32,
+    pub marks_put: u32,
+    pub marks: u32,
+    hits: BTreeMap<Rule, u32>,
+}
 
 // Adds to a count.
-pub fn add(tally: &mut [u32; 96], which: usize, n: u32) {
-    if which < 96 {
-        tally[which] = tally[which].wrapping_add(n);
+pub fn add(count: &mut u32, n: u32) {
+    *count = count.wrapping_add(n);
+}
+
+impl Tally {
+    // Nothing counted.
+    pub fn new(alloc: Global) -> Tally {
+        Tally {
+            lines: 0,
+            scripts: 0,
+            questions: 0,
+            yes: 0,
+            stopped: 0,
+            mismatches: 0,
+            missing: 0,
+            instalments: 0,
+            steps: 0,
+            differences: 0,
+            visited: 0,
+            bounds_put: 0,
+            bounds: 0,
+            marks_put: 0,
+            marks: 0,
+            hits: BTreeMap::new(alloc),
+        }
+    }
+
+    // Counts a rule.
+    pub fn hit(&mut self, rule: Rule) -> Result<(), AllocError> {
+        add(self.hits.entry(rule)?.or_insert(0), 1);
+        Ok(())
+    }
+
+    // How often a rule was hit.
+    fn hits(&self, rule: Rule) -> u32 {
+        self.hits.get(&rule).copied().unwrap_or(0)
+    }
+
+    // How many of the rules with a variable added no bound.
+    fn repeated(&self) -> u32 {
+        let visits = WITH_VARIABLE
+            .iter()
+            .fold(0u32, |n, rule| n.wrapping_add(self.hits(*rule)));
+        visits.wrapping_sub(self.bounds.wrapping_sub(self.bounds_put))
+    }
+
+    // A line of a rule, with both counts where it has two.
+    fn write_rule<W: fmt::Write>(&self, f: &mut fmt::Formatter<W>, rule: Rule) -> fmt::Result {
+        let hits = self.hits(rule);
+        write!(f, "{rule}: {hits}")?;
+        if let Rule::Of(sided, _) = rule {
+            let right = self.hits(Rule::Of(sided, Side::Right));
+            write!(f, ", {right}")?;
+        }
+        writeln!(f)
+    }
+
+    // The lines of rules.
+    fn write_rules<W: fmt::Write>(&self, f: &mut fmt::Formatter<W>, rules: &[Rule]) -> fmt::Result {
+        for rule in rules {
+            self.write_rule(f, *rule)?;
+        }
+        Ok(())
     }
 }
 
-// All counts.
-pub fn print_tally<W: Write>(out: &mut W, tally: &mut [u32; 96]) -> io::Result<()> {
-    tally[REPEATED] = repeated(tally);
-    tally[PASSED] = tally[MARKS].wrapping_sub(tally[MARKS_PUT]);
-    tally[IDLE] = tally[STEPS].wrapping_sub(tally[VISITED]);
-    print_counts(out, tally)
-}
-
-// How many of the rules with a variable added no bound.
-fn repeated(tally: &[u32; 96]) -> u32 {
-    let concrete = tally[RULES + 1].wrapping_add(tally[RULES + 2]);
-    let visits = tally[RULES].wrapping_add(concrete);
-    let added = tally[BOUNDS].wrapping_sub(tally[BOUNDS_PUT]);
-    visits.wrapping_sub(added)
-}
-
-// The counts with their names.
-fn print_counts<W: Write>(out: &mut W, tally: &[u32; 96]) -> io::Result<()> {
-    write_each(
-        out,
-        b"scripts: %
-questions: %
-  answered: yes, and stopped at the limit: %, %
-  failed: mismatch, and missing field: %, %
-instalments: %
-steps: %
-differences: %
-How often each rule was hit; where there are two counts, on the left and on the right:
-variable under variable: %
-variable under concrete: %
-concrete under variable: %
-  of these three, the bound was there: %
-  marks passed on: %
-equal numbers, or visited before: %
-named: %, %
-lambdas: %
-lists: %
-equal primitives: %
-Int or Float under Number: %
-functor under lambda: %
-no rule fits, mismatch: %
-attrsets: %
-  sup's field, the same field: %
-  sup's field, sub's dynamic type: %
-  sup's field, sub open: %
-  sup's field, optional: %
-  sup's field, missing: %
-  two dynamic types: %
-neg under neg: %
-under neg, disjoint: %
-under neg, mismatch: %
-inter on the right: %
-union on the left: %
-inter on the left, both chosen: %
-inter on the left, none chosen: %
-inter on the left, one chosen, mismatch: %, %
-inter on the left, one chosen, target is sup: %, %
-inter on the left, one chosen, target is new: %, %
-union on the right, both variables: %
-union on the right, one variable, same kind: %, %
-union on the right, one variable, named: %, %
-union on the right, one variable, functor: %, %
-union on the right, one variable, not compatible: %, %
-union on the right, both disjoint, mismatch: %
-union on the right, one not disjoint: %, %
-union on the right, one of the same kind: %, %
-union on the right, both: %
-",
-        tally,
-    )
+impl fmt::Display for Tally {
+    fn fmt<W: fmt::Write>(&self, f: &mut fmt::Formatter<W>) -> fmt::Result {
+        writeln!(f, "scripts: {}", self.scripts)?;
+        writeln!(f, "questions: {}", self.questions)?;
+        writeln!(
+            f,
+            "  answered: yes, and stopped at the limit: {}, {}",
+            self.yes, self.stopped
+        )?;
+        writeln!(
+            f,
+            "  failed: mismatch, and missing field: {}, {}",
+            self.mismatches, self.missing
+        )?;
+        writeln!(f, "instalments: {}", self.instalments)?;
+        writeln!(f, "steps: {}", self.steps)?;
+        writeln!(f, "differences: {}", self.differences)?;
+        writeln!(
+            f,
+            "How often each rule was hit; where there are two counts, on the left and on the right:"
+        )?;
+        self.write_rules(f, &WITH_VARIABLE)?;
+        let repeated = self.repeated();
+        let passed = self.marks.wrapping_sub(self.marks_put);
+        let idle = self.steps.wrapping_sub(self.visited);
+        writeln!(f, "  of these three, the bound was there: {repeated}")?;
+        writeln!(f, "  marks passed on: {passed}")?;
+        writeln!(f, "equal numbers, or visited before: {idle}")?;
+        self.write_rules(f, &WITHOUT)
+    }
 }
