@@ -6,25 +6,16 @@
 mod records;
 
 ghost use Rattle.std.specs.Prelude.{◌≡◌, ◌≤◌, length, slice_index_or};
-ghost use Rattle.model.specs.Format.{regions, newest};
 
 use image::Capacities;
 use model::Failure;
 pub use records::{Bound, Entry, Equal, Field, Records, Stored, Visited, each};
 
 // A word, or 0 past the last.
-pub fn word(words: &[u32], at: usize) -> u32
+fn word(words: &[u32], at: usize) -> u32
     ensures { result ≡ slice_index_or words.now at 0 }
 {
-    if at < words.len() { words[at] } else { 0 }
-}
-
-// A number as an index.
-pub fn wide(n: u32) -> usize
-    ensures value { result ≡ n }
-    ensures upper_bound { result ≤ 4294967295 }
-{
-    n as usize
+    words.get(at).copied().unwrap_or(0)
 }
 
 // A table's header; the failure that it keeps, if it keeps one.
@@ -82,46 +73,6 @@ fn broken(words: &[u32]) -> Option<Failure> {
     }
 }
 
-// A word of record n of a region.
-fn record_word(words: &[u32], region: usize, n: u32, which: usize) -> u32
-    requires { (1 ≤ region) × (region ≤ length (regions newest)) × (which ≤ 7) }
-{
-    let offset_at = image::format::OFFSET_AT + image::format::REGION_STEP * region;
-    let start = wide(word(words, offset_at));
-    word(
-        words,
-        start + image::format::WIDTHS[region - 1] * wide(n) + which,
-    )
-}
-
-// A word of an entry.
-pub fn entry_word(words: &[u32], n: u32, which: usize) -> u32
-    requires { which ≤ 7 }
-{
-    record_word(words, image::format::IN_ENTRIES, n, which)
-}
-
-// A word of a field.
-pub fn field_word(words: &[u32], n: u32, which: usize) -> u32
-    requires { which ≤ 7 }
-{
-    record_word(words, image::format::IN_FIELDS, n, which)
-}
-
-// How many records each region has.
-pub fn counts(words: &[u32]) -> [u32; 6]
-    ensures { 6 ≡ length result }
-{
-    [
-        word(words, image::format::ENTRIES_COUNT_AT),
-        word(words, image::format::FIELDS_COUNT_AT),
-        word(words, image::format::BOUNDS_COUNT_AT),
-        word(words, image::format::VISITED_COUNT_AT),
-        word(words, image::format::PENDING_COUNT_AT),
-        word(words, image::format::EQUALS_COUNT_AT),
-    ]
-}
-
 // The largest capacities.
 pub fn largest() -> Capacities {
     Capacities {
@@ -147,12 +98,12 @@ pub fn is_small(c: Capacities) -> bool {
 // How many words a table of these capacities has.
 pub fn size_of(c: Capacities) -> usize {
     image::format::HEADER_WORDS
-        + image::format::ENTRY_WIDTH * wide(c.entries)
-        + image::format::FIELD_WIDTH * wide(c.fields)
-        + image::format::BOUND_WIDTH * wide(c.bounds)
-        + image::format::VISITED_WIDTH * wide(c.visited)
-        + image::format::PENDING_WIDTH * wide(c.pending)
-        + image::format::EQUALS_WIDTH * wide(c.equals)
+        + image::format::ENTRY_WIDTH * c.entries as usize
+        + image::format::FIELD_WIDTH * c.fields as usize
+        + image::format::BOUND_WIDTH * c.bounds as usize
+        + image::format::VISITED_WIDTH * c.visited as usize
+        + image::format::PENDING_WIDTH * c.pending as usize
+        + image::format::EQUALS_WIDTH * c.equals as usize
 }
 
 // As many words as the largest table has.

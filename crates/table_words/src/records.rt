@@ -1,29 +1,32 @@
 // The records of a table's regions, each with its words by name.
-ghost use Rattle.std.specs.Prelude.{◌≡◌, ℕ, ◌-◌, ◌≤◌, slice_index_or};
+ghost use Rattle.std.specs.Prelude.{◌≡◌, ℕ, ◌-◌, ◌≤◌, List, slice_index_or};
+ghost use Rattle.table_words.specs.Records.{record_word};
 ghost use Rattle.std.specs.Iterator.{at_most};
 
-use crate::{wide, word};
+use crate::word;
 use model::Attrset;
-use std::array;
 use std::marker::PhantomData;
 
-// A kind of record: where the header counts it, and how one is read, 0 where the words have none.
+// A kind of record: where the header counts it, and how one is read, each word 0 where the table has none.
 pub trait Stored: Sized {
     ghost COUNT_AT: { ℕ };
 
+    ghost stored: { List ℕ → ℕ → Self };
+
     const COUNT_AT: usize;
 
-    fn read(words: &[u32], n: u32) -> Self;
+    fn read(words: &[u32], n: u32) -> Self
+        ensures { result ≡ stored words.now n };
 }
 
-// The words of record n of a region.
-fn record<const WIDTH: usize>(words: &[u32], region: usize, n: u32) -> [u32; WIDTH]
-    requires region { region ≤ 6 }
-    requires width { WIDTH ≤ 7 }
+// A word of record n of a region.
+fn record_word(words: &[u32], offset_at: usize, width: usize, n: u32, which: usize) -> u32
+    requires width { width ≤ 7 }
+    requires which { which ≤ 6 }
+    ensures { result ≡ record_word words.now offset_at width n which }
 {
-    let offset_at = image::format::OFFSET_AT + image::format::REGION_STEP * region;
-    let start = wide(word(words, offset_at)) + WIDTH * wide(n);
-    array::from_fn(|i| word(words, start.wrapping_add(i)))
+    let start = word(words, offset_at) as usize;
+    word(words, start + width * n as usize + which)
 }
 
 // An entry.
@@ -41,22 +44,28 @@ pub struct Entry {
 impl Stored for Entry {
     ghost COUNT_AT = { 11 };
 
+    ghost stored = { λ words n. record { kind = record_word words 9 7 n 0; x = record_word words 9 7 n 1; y = record_word words 9 7 n 2; z = record_word words 9 7 n 3; flags = record_word words 9 7 n 4; spread = record_word words 9 7 n 5; negation = record_word words 9 7 n 6 } };
+
     const COUNT_AT: usize = image::format::ENTRIES_COUNT_AT;
 
     fn read(words: &[u32], n: u32) -> Entry {
-        let [kind, x, y, z, flags, spread, negation] = record::<{ image::format::ENTRY_WIDTH }>(
-            words,
-            image::format::IN_ENTRIES,
-            n,
-        );
+        let word = |which: usize| {
+            record_word(
+                words,
+                image::format::ENTRIES_OFFSET_AT,
+                image::format::ENTRY_WIDTH,
+                n,
+                which,
+            )
+        };
         Entry {
-            kind,
-            x,
-            y,
-            z,
-            flags,
-            spread,
-            negation,
+            kind: word(image::format::KIND_WORD),
+            x: word(image::format::X_WORD),
+            y: word(image::format::Y_WORD),
+            z: word(image::format::Z_WORD),
+            flags: word(image::format::FLAGS_WORD),
+            spread: word(image::format::SPREAD_WORD),
+            negation: word(image::format::NEGATION_WORD),
         }
     }
 }
@@ -100,18 +109,24 @@ pub struct Field {
 impl Stored for Field {
     ghost COUNT_AT = { 14 };
 
+    ghost stored = { λ words n. record { name = record_word words 12 3 n 0; entry = record_word words 12 3 n 1; optional = record_word words 12 3 n 2 } };
+
     const COUNT_AT: usize = image::format::FIELDS_COUNT_AT;
 
     fn read(words: &[u32], n: u32) -> Field {
-        let [name, entry, optional] = record::<{ image::format::FIELD_WIDTH }>(
-            words,
-            image::format::IN_FIELDS,
-            n,
-        );
+        let word = |which: usize| {
+            record_word(
+                words,
+                image::format::FIELDS_OFFSET_AT,
+                image::format::FIELD_WIDTH,
+                n,
+                which,
+            )
+        };
         Field {
-            name,
-            entry,
-            optional,
+            name: word(image::format::NAME_WORD),
+            entry: word(image::format::ENTRY_WORD),
+            optional: word(image::format::OPTIONAL_WORD),
         }
     }
 }
@@ -127,18 +142,24 @@ pub struct Bound {
 impl Stored for Bound {
     ghost COUNT_AT = { 17 };
 
+    ghost stored = { λ words n. record { variable = record_word words 15 3 n 0; side = record_word words 15 3 n 1; bound = record_word words 15 3 n 2 } };
+
     const COUNT_AT: usize = image::format::BOUNDS_COUNT_AT;
 
     fn read(words: &[u32], n: u32) -> Bound {
-        let [variable, side, bound] = record::<{ image::format::BOUND_WIDTH }>(
-            words,
-            image::format::IN_BOUNDS,
-            n,
-        );
+        let word = |which: usize| {
+            record_word(
+                words,
+                image::format::BOUNDS_OFFSET_AT,
+                image::format::BOUND_WIDTH,
+                n,
+                which,
+            )
+        };
         Bound {
-            variable,
-            side,
-            bound,
+            variable: word(image::format::VARIABLE_WORD),
+            side: word(image::format::SIDE_WORD),
+            bound: word(image::format::BOUND_WORD),
         }
     }
 }
@@ -153,15 +174,24 @@ pub struct Visited {
 impl Stored for Visited {
     ghost COUNT_AT = { 20 };
 
+    ghost stored = { λ words n. record { sub = record_word words 18 2 n 0; sup = record_word words 18 2 n 1 } };
+
     const COUNT_AT: usize = image::format::VISITED_COUNT_AT;
 
     fn read(words: &[u32], n: u32) -> Visited {
-        let [sub, sup] = record::<{ image::format::VISITED_WIDTH }>(
-            words,
-            image::format::IN_VISITED,
-            n,
-        );
-        Visited { sub, sup }
+        let word = |which: usize| {
+            record_word(
+                words,
+                image::format::VISITED_OFFSET_AT,
+                image::format::VISITED_WIDTH,
+                n,
+                which,
+            )
+        };
+        Visited {
+            sub: word(image::format::VISITED_SUB_WORD),
+            sup: word(image::format::VISITED_SUP_WORD),
+        }
     }
 }
 
@@ -175,15 +205,24 @@ pub struct Equal {
 impl Stored for Equal {
     ghost COUNT_AT = { 26 };
 
+    ghost stored = { λ words n. record { left = record_word words 24 2 n 0; right = record_word words 24 2 n 1 } };
+
     const COUNT_AT: usize = image::format::EQUALS_COUNT_AT;
 
     fn read(words: &[u32], n: u32) -> Equal {
-        let [left, right] = record::<{ image::format::EQUALS_WIDTH }>(
-            words,
-            image::format::IN_EQUALS,
-            n,
-        );
-        Equal { left, right }
+        let word = |which: usize| {
+            record_word(
+                words,
+                image::format::EQUALS_OFFSET_AT,
+                image::format::EQUALS_WIDTH,
+                n,
+                which,
+            )
+        };
+        Equal {
+            left: word(image::format::EQUAL_LEFT_WORD),
+            right: word(image::format::EQUAL_RIGHT_WORD),
+        }
     }
 }
 
