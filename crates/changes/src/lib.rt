@@ -102,7 +102,12 @@ fn dynamic_known(image: &[u32], dynamic: Option<u32>) -> bool
 }
 
 // Makes an attrset with the fields of a list, triples of a name, an entry and optional.
-pub fn attrset_in(image: &mut [u32], fields: &[u32], is_open: bool, dynamic: Option<u32>) -> Result<u32, Refusal>
+pub fn attrset_in(
+    image: &mut [u32],
+    fields: &[u32],
+    is_open: bool,
+    dynamic: Option<u32>,
+) -> Result<u32, Refusal>
     requires { T (well_formed image.old) }
     ensures result_value { told_made result ≡ (response_of image.old (attrset_turn fields.now is_open dynamic (table image.old))).says }
     ensures image_after { image.new ≡ (response_of image.old (attrset_turn fields.now is_open dynamic (table image.old))).words }

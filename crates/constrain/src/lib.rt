@@ -111,11 +111,7 @@ pub fn asks(image: &[u32], a: Attrset, j: u32) -> FieldAsk
     let name = image::field_word(image, j, image::format::NAME_WORD);
     let found = disjoint::field_named(image, a.first, a.count, name);
     match found {
-        Some(i) => FieldAsk::Under(image::field_word(
-            image,
-            i,
-            image::format::ENTRY_WORD,
-        )),
+        Some(i) => FieldAsk::Under(image::field_word(image, i, image::format::ENTRY_WORD)),
         None => asks_dynamic(image, a, j),
     }
 }

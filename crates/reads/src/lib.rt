@@ -110,10 +110,7 @@ fn visited_record(image: &[u32], n: u32) -> Result<Record, Refusal>
     }
     let sub = image::visited_word(image, n, image::format::VISITED_SUB_WORD);
     let sup = image::visited_word(image, n, image::format::VISITED_SUP_WORD);
-    Ok(Record::Visited {
-        sub,
-        sup,
-    })
+    Ok(Record::Visited { sub, sup })
 }
 
 // A record of region 5.
@@ -126,10 +123,7 @@ fn pending_record(image: &[u32], n: u32) -> Result<Record, Refusal>
     }
     let sub = image::pending_word(image, n, image::format::PENDING_SUB_WORD);
     let sup = image::pending_word(image, n, image::format::PENDING_SUP_WORD);
-    Ok(Record::Pending {
-        sub,
-        sup,
-    })
+    Ok(Record::Pending { sub, sup })
 }
 
 // A record of region 6.
@@ -142,10 +136,7 @@ fn equal_record(image: &[u32], n: u32) -> Result<Record, Refusal>
     }
     let left = image::equal_word(image, n, image::format::EQUAL_LEFT_WORD);
     let right = image::equal_word(image, n, image::format::EQUAL_RIGHT_WORD);
-    Ok(Record::Equal {
-        left,
-        right,
-    })
+    Ok(Record::Equal { left, right })
 }
 
 // Whether two entries share no value.

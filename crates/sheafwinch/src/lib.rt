@@ -12,7 +12,12 @@ ghost use Rattle.image.specs.Stores.{capacities_of};
 use model::{Entry, Instalment, Question, Record, Refusal};
 
 // Starts an image in the lent words, whatever stood there: idle, level and counts 0.
-pub fn start(image: &mut [u32], names: u32, functor: u32, capacities: image::Capacities) -> Result<(), Refusal>
+pub fn start(
+    image: &mut [u32],
+    names: u32,
+    functor: u32,
+    capacities: image::Capacities,
+) -> Result<(), Refusal>
     ensures result_value { told_reply result ≡ (start_of names functor (capacities_of capacities) image.old).says }
     ensures image_after { image.new ≡ (start_of names functor (capacities_of capacities) image.old).words }
 {
@@ -92,7 +97,12 @@ pub fn make_neg(image: &mut [u32], n: u32) -> Result<u32, Refusal>
 }
 
 // Makes an attrset with the fields of a list, triples of a name, an entry and optional.
-pub fn make_attrset(image: &mut [u32], fields: &[u32], is_open: bool, dynamic: Option<u32>) -> Result<u32, Refusal>
+pub fn make_attrset(
+    image: &mut [u32],
+    fields: &[u32],
+    is_open: bool,
+    dynamic: Option<u32>,
+) -> Result<u32, Refusal>
     ensures result_value { told_made result ≡ (perform (makes_attrset fields.now is_open dynamic) image.old).says }
     ensures image_after { image.new ≡ (perform (makes_attrset fields.now is_open dynamic) image.old).words }
 {
@@ -147,7 +157,13 @@ pub fn set_level(image: &mut [u32], variable: u32, level: u32) -> Result<(), Ref
 
 // Opens the question whether sub fits under sup, and works it, at most so many steps; a held question is refused once a question in this
 // table has failed. Refused at the opening, it does no step and leaves every word; else it is the first instalment, as work gives it.
-pub fn open(image: &mut [u32], held: bool, sub: u32, sup: u32, budget: u32) -> Result<Instalment, Refusal>
+pub fn open(
+    image: &mut [u32],
+    held: bool,
+    sub: u32,
+    sup: u32,
+    budget: u32,
+) -> Result<Instalment, Refusal>
     ensures result_value { told_opening result ≡ (perform (opens (under held sub sup) budget) image.old).says }
     ensures result_value_2 { steps_of result ≡ (perform (opens (under held sub sup) budget) image.old).steps }
     ensures image_after { image.new ≡ (perform (opens (under held sub sup) budget) image.old).words }
@@ -162,7 +178,13 @@ pub fn open(image: &mut [u32], held: bool, sub: u32, sup: u32, budget: u32) -> R
 }
 
 // Opens the question whether each of two entries fits under the other.
-pub fn open_equal(image: &mut [u32], held: bool, left: u32, right: u32, budget: u32) -> Result<Instalment, Refusal>
+pub fn open_equal(
+    image: &mut [u32],
+    held: bool,
+    left: u32,
+    right: u32,
+    budget: u32,
+) -> Result<Instalment, Refusal>
     ensures result_value { told_opening result ≡ (perform (opens (both_ways held left right) budget) image.old).says }
     ensures result_value_2 { steps_of result ≡ (perform (opens (both_ways held left right) budget) image.old).steps }
     ensures image_after { image.new ≡ (perform (opens (both_ways held left right) budget) image.old).words }

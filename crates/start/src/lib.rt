@@ -93,7 +93,12 @@ fn capacities_right(image: &[u32], names: u32, functor: u32, sizes: &[u32]) -> b
 }
 
 // Starts an image: idle, at level 0, with nothing in its regions. A refusal leaves every word as found.
-pub fn start(image: &mut [u32], names: u32, functor: u32, capacities: Capacities) -> Result<(), Refusal>
+pub fn start(
+    image: &mut [u32],
+    names: u32,
+    functor: u32,
+    capacities: Capacities,
+) -> Result<(), Refusal>
     ensures result_value { told_reply result ≡ (start_of names functor (capacities_of capacities) image.old).says }
     ensures image_after { image.new ≡ (start_of names functor (capacities_of capacities) image.old).words }
 {

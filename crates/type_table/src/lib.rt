@@ -200,7 +200,12 @@ fn wide(x: u32) -> usize
 }
 
 // Makes an attrset with the fields of a list, triples of a name, an entry and optional.
-pub fn make_attrset(image: &mut [u32], fields: &[u32], is_open: bool, dynamic: Option<u32>) -> Result<u32, Refusal>
+pub fn make_attrset(
+    image: &mut [u32],
+    fields: &[u32],
+    is_open: bool,
+    dynamic: Option<u32>,
+) -> Result<u32, Refusal>
     requires { T (well_formed image.old) }
     ensures result_value { told_made result ≡ (attrset_response image.old fields.now is_open dynamic).says }
     ensures image_after { image.new ≡ (attrset_response image.old fields.now is_open dynamic).words }
