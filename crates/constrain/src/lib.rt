@@ -19,7 +19,7 @@ ghost use Rattle.constrain.specs.Next.{Comes, ComesUnder, ComesOf, words_at, lam
 use decision::Arm;
 use model::{Attrset, Entry};
 
-// The consequences of a pair, the first to be worked first.
+// The consequences of a pair, the first to be worked first: none, one or two pairs, or so many as fields ask for.
 #[derive(Clone, Copy, Debug, PartialEq, Eq)]
 pub enum Pairs {
     Nothing,
@@ -54,7 +54,7 @@ pub struct Words {
     pub y: u32,
 }
 
-// What a field of sup asks of sub: an entry under its own, nothing, or it is missing.
+// What a field of sup asks of sub: an entry under its own, nothing, or it is missing. Three cases, and so no Option.
 #[derive(Clone, Copy, Debug, PartialEq, Eq)]
 pub enum FieldAsk {
     Under(u32),

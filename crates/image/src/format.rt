@@ -1,4 +1,5 @@
-// The numbers of the format and its limits, as in the model's Format: the crates above have them from here.
+// The numbers of the format and its limits, as in the model's Format: the crates above have them from here. They stay numbers: they are
+// the words of document 01's image, which C, Python and stored images hold, and the contracts speak of words.
 
 // Where the header has each word: the first nine, then offset, capacity and count of each region. It has 27.
 pub const FORMAT_AT: usize = 0;
