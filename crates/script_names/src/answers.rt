@@ -60,24 +60,19 @@ pub fn print_refusal<W: Write>(out: &mut W, names: &[u8], r: Refusal) -> io::Res
             Err(NoRegion) => write!(out, " "),
         },
         Refusal::Broken {
-            kind,
+            kind: image::format::FIELD_MISSING,
             sub,
             sup,
             name,
         } => {
             write!(out, " ")?;
-            print_break(out, names, kept_failure(kind, sub, sup, name))
+            print_break(out, names, Failure::MissingField { sub, sup, name })
+        }
+        Refusal::Broken { sub, sup, .. } => {
+            write!(out, " ")?;
+            print_break(out, names, Failure::Mismatch { sub, sup })
         }
         _ => Ok(()),
-    }
-}
-
-// The failure that break words keep.
-fn kept_failure(kind: u32, sub: u32, sup: u32, name: u32) -> Failure {
-    if kind == image::format::FIELD_MISSING {
-        Failure::MissingField { sub, sup, name }
-    } else {
-        Failure::Mismatch { sub, sup }
     }
 }
 

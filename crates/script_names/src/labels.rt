@@ -44,20 +44,20 @@ pub fn keep_new<'a>(
     number: u32,
     word: &'a [u8],
 ) -> Result<(), AllocError> {
-    if place_of(number) == Some(labels.len()) {
+    if kept_at(number) == Some(labels.len()) {
         labels.push(word)?;
     }
     Ok(())
 }
 
 // Where a label word is kept; a label that is a number itself is kept nowhere.
-fn place_of(number: u32) -> Option<usize> {
+fn kept_at(number: u32) -> Option<usize> {
     Some(number.checked_sub(FIRST)? as usize)
 }
 
 // A label as the script has it.
 pub fn print_label<W: Write>(out: &mut W, labels: &[&[u8]], n: u32) -> io::Result<()> {
-    match place_of(n) {
+    match kept_at(n) {
         Some(at) => out.write_all(labels.get(at).copied().unwrap_or(b"")),
         None => write!(out, "{n}"),
     }
