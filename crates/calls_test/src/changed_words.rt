@@ -29,11 +29,8 @@ pub fn print_refused<W: Write>(out: &mut W) -> io::Result<()> {
     let mut words = room();
     make_table(&mut words);
     put_bounds(&mut words);
-    writeln!(
-        out,
-        "The image cut to 0 to 282 words, refused: {}",
-        count_refused(&words, 282)
-    )?;
+    let refused = words.get(..282).map_or(0, count_refused);
+    writeln!(out, "The image cut to 0 to 282 words, refused: {refused}")?;
     let mut trials = Trials { out, words };
     trials.print_past()?;
     trials.print_layout()?;
@@ -87,7 +84,7 @@ impl<W: Write> Trials<'_, W> {
         for (more, how) in ADDED {
             write!(self.out, "{what}, {how}, refused:")?;
             for span in spans {
-                self.print_each(*span, more)?;
+                self.print_span(*span, more)?;
             }
             writeln!(self.out)?;
         }
@@ -95,7 +92,7 @@ impl<W: Write> Trials<'_, W> {
     }
 
     // How many of the words are refused with so much added to one, and which are not.
-    fn print_each(&mut self, span: Span, more: u32) -> io::Result<()> {
+    fn print_span(&mut self, span: Span, more: u32) -> io::Result<()> {
         let mut refused: u32 = 0;
         for at in span.from..span.end {
             if self.is_refused(at, more)? {

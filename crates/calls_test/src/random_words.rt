@@ -1,12 +1,7 @@
 // Words at random are no image: the read of an entry refuses them at every length from 0 to 200.
-ghost use Rattle.std.specs.Prelude.{◌≤◌};
-
 use model::Refusal;
 use std::io;
 use std::io::Write;
-
-// How many words there are at most.
-const MOST_WORDS: usize = 200;
 
 // Numbers at random: the last one, and 1 before the first.
 #[derive(Drop)]
@@ -22,25 +17,23 @@ impl Random {
 
 // How many lengths are refused, of words at random and of these with the format word right.
 pub fn print_counts<W: Write>(out: &mut W) -> io::Result<()> {
-    let mut words = [0u32; MOST_WORDS];
+    let mut words = [0u32; 200];
     let mut random = Random(1);
     for word in &mut words {
         *word = random.draw();
     }
-    let without = count_refused(&words, MOST_WORDS);
+    let without = count_refused(&words);
     words[image::format::FORMAT_AT] = image::format::FORMAT;
-    let with = count_refused(&words, MOST_WORDS);
+    let with = count_refused(&words);
     writeln!(
         out,
         "Lengths from 0 to 200 of words at random that are refused 1: {without}, and with word 0 right: {with}"
     )
 }
 
-// How many of the parts of 0 to so many words from the first on are refused as no image.
-pub fn count_refused(words: &[u32], most: usize) -> usize
-    requires { most ≤ 1000 }
-{
-    (0..=most)
+// How many of the parts of no word to all of them, from the first on, are refused as no image.
+pub fn count_refused(words: &[u32]) -> usize {
+    (0..=words.len())
         .filter(|&n| words.get(..n).is_some_and(is_bad))
         .count()
 }
