@@ -21,6 +21,7 @@ const CALLS: [Call; 5] = [
 ];
 
 // A line for each capacity where an answer turns. A union needs 1 entry; the negation needs 10, for the unions and the variable.
+// Its capacities, its start and its script are its own: one function for the three such would take a closure for each.
 pub fn print_lines<W: Write>(out: &mut W, alloc: Global) -> io::Result<()> {
     writeln!(
         out,

@@ -52,6 +52,7 @@ const LINES: [(u32, u32, u32, u32); 12] = [
 ];
 
 // A line for the capacities of bounds, visited, pending and equals, five entries and no field: the answers of the script's calls.
+// Its capacities, its start and its script are its own: one function for the three such would take a closure for each.
 pub fn print_lines<W: Write>(out: &mut W, alloc: Global) -> io::Result<()> {
     writeln!(
         out,

@@ -61,6 +61,7 @@ const LINES: [(u32, u32, u32); 19] = [
 ];
 
 // A line for the capacities of entries, fields and bounds, two records of each other region: the answers of the script's calls.
+// Its capacities, its start and its script are its own: one function for the three such would take a closure for each.
 pub fn print_lines<W: Write>(out: &mut W, alloc: Global) -> io::Result<()> {
     writeln!(
         out,
