@@ -3,14 +3,12 @@
 use crate::rule::{Met, Rule, Side, Sided};
 use crate::table::Table;
 use crate::tally::Tally;
-use image::format::{
-    ATTRSET, FLOAT, INT, INTER, LAMBDA, LIST, NAMED, NEG, NUMBER, OPTIONAL, PRIMITIVE, UNION,
-    VARIABLE,
-};
+use image::format::{FLOAT, INT, NUMBER, OPTIONAL};
+use model::{Attrset, Entry};
 use std::alloc::AllocError;
-use table_words::{Entry, Field};
+use table_words::Field;
 
-// A visited pair: the numbers of its entries, and their words.
+// A visited pair: the numbers of its entries, and what they say.
 #[derive(Clone, Copy)]
 pub struct Pair<'a> {
     table: &'a Table,
@@ -27,48 +25,53 @@ impl<'a> Pair<'a> {
             table,
             sub,
             sup,
-            below: table.stored(sub),
-            above: table.stored(sup),
+            below: table.stored(sub).into(),
+            above: table.stored(sup).into(),
         }
     }
 
     // Counts its rule, and of attrsets how sup's fields are met.
     pub fn count(&self, tally: &mut Tally) -> Result<(), AllocError> {
-        let rule = self.rule();
-        tally.hit(rule)?;
-        if rule == Rule::Attrsets {
-            self.count_fields(tally)?;
+        tally.hit(self.rule())?;
+        match (self.below, self.above) {
+            (Entry::AttrSet(sub), Entry::AttrSet(sup)) => self.count_fields(tally, sub, sup),
+            _ => Ok(()),
         }
-        Ok(())
     }
 
     // Its rule.
     fn rule(&self) -> Rule {
-        let Entry { x, y, .. } = self.below;
-        match (self.below.kind, self.above.kind) {
-            (VARIABLE, VARIABLE) => Rule::VariableVariable,
-            (VARIABLE, _) => Rule::VariableConcrete,
-            (_, VARIABLE) => Rule::ConcreteVariable,
-            (NAMED, _) => Rule::Of(Sided::Named, Side::Left),
-            (_, NAMED) => Rule::Of(Sided::Named, Side::Right),
-            (PRIMITIVE, PRIMITIVE) => primitives(x, self.above.x),
-            (LIST, LIST) => Rule::Lists,
-            (LAMBDA, LAMBDA) => Rule::Lambdas,
-            (ATTRSET, ATTRSET) => Rule::Attrsets,
-            (NEG, NEG) => Rule::NegNeg,
-            (a, NEG) if a != INTER && a != UNION => self.under_neg(),
-            (_, INTER) => Rule::InterRight,
-            (UNION, _) => Rule::UnionLeft,
-            (INTER, _) => self.inter_left(x, y),
-            (_, UNION) => self.union_right(self.above.x, self.above.y),
-            (_, b) if self.is_functor(b) => Rule::FunctorLambda,
+        match (self.below, self.above) {
+            (Entry::Variable { .. }, Entry::Variable { .. }) => Rule::VariableVariable,
+            (Entry::Variable { .. }, _) => Rule::VariableConcrete,
+            (_, Entry::Variable { .. }) => Rule::ConcreteVariable,
+            (Entry::Named { .. }, _) => Rule::Of(Sided::Named, Side::Left),
+            (_, Entry::Named { .. }) => Rule::Of(Sided::Named, Side::Right),
+            (Entry::Primitive(a), Entry::Primitive(b)) => primitives(a, b),
+            (Entry::List(_), Entry::List(_)) => Rule::Lists,
+            (Entry::Lambda { .. }, Entry::Lambda { .. }) => Rule::Lambdas,
+            (Entry::AttrSet(_), Entry::AttrSet(_)) => Rule::Attrsets,
+            (Entry::Neg(_), Entry::Neg(_)) => Rule::NegNeg,
+            (_, Entry::Inter(_, _)) => Rule::InterRight,
+            (Entry::Union(_, _), _) => Rule::UnionLeft,
+            (Entry::Inter(x, y), _) => self.inter_left(x, y),
+            _ => self.last(),
+        }
+    }
+
+    // The rules after those: under a negation, under a union, a functor under a lambda.
+    fn last(&self) -> Rule {
+        match self.above {
+            Entry::Neg(inner) => self.under_neg(inner),
+            Entry::Union(x, y) => self.union_right(x, y),
+            Entry::Lambda { .. } if self.is_functor() => Rule::FunctorLambda,
             _ => Rule::Mismatch,
         }
     }
 
     // Of an entry under a negation.
-    fn under_neg(&self) -> Rule {
-        if self.table.is_disjoint(self.sub, self.above.x) {
+    fn under_neg(&self, inner: u32) -> Rule {
+        if self.table.is_disjoint(self.sub, inner) {
             Rule::NegDisjoint
         } else {
             Rule::NegMismatch
@@ -120,24 +123,25 @@ impl<'a> Pair<'a> {
 
     // Why sub is compatible with the concrete side, or that it is not.
     fn compatible(&self, side: u32) -> Sided {
-        let kind = self.table.stored(side).kind;
-        if kind == NAMED {
-            Sided::CompatibleNamed
-        } else if kind == self.below.kind {
-            Sided::CompatibleKind
-        } else if self.is_functor(kind) {
-            Sided::CompatibleFunctor
-        } else {
-            Sided::NotCompatible
+        match Entry::from(self.table.stored(side)) {
+            Entry::Named { .. } => Sided::CompatibleNamed,
+            _ if self.is_like(side) => Sided::CompatibleKind,
+            Entry::Lambda { .. } if self.is_functor() => Sided::CompatibleFunctor,
+            _ => Sided::NotCompatible,
         }
+    }
+
+    // Whether an entry is of sub's kind.
+    fn is_like(&self, n: u32) -> bool {
+        self.table.stored(self.sub).kind == self.table.stored(n).kind
     }
 
     // With no variable: which side is disjoint, or else which is of the same kind.
     fn union_none(&self, x: u32, y: u32) -> Rule {
         let far_x = self.table.is_disjoint(self.sub, x);
         let far_y = self.table.is_disjoint(self.sub, y);
-        let like_x = self.below.kind == self.table.stored(x).kind;
-        let like_y = self.below.kind == self.table.stored(y).kind;
+        let like_x = self.is_like(x);
+        let like_y = self.is_like(y);
         match (far_x, far_y) {
             (true, true) => Rule::UnionDisjoint,
             (false, true) => Rule::Of(Sided::UnionOther, Side::Left),
@@ -148,39 +152,41 @@ impl<'a> Pair<'a> {
         }
     }
 
-    // Whether sub is an attrset with a functor and meets a lambda: an entry of this kind.
-    fn is_functor(&self, kind: u32) -> bool {
-        if self.below.kind != ATTRSET || kind != LAMBDA {
-            return false;
-        }
-        match self.table.header().functor.checked_sub(1) {
-            Some(name) => self.table.has_field(self.below, name),
-            None => false,
+    // Whether sub is an attrset with a functor.
+    fn is_functor(&self) -> bool {
+        match (self.below, self.table.header().functor.checked_sub(1)) {
+            (Entry::AttrSet(sub), Some(name)) => self.table.has_field(sub, name),
+            _ => false,
         }
     }
 
     // How sup's fields are met, up to one that is missing, and whether both have a dynamic type.
-    fn count_fields(&self, tally: &mut Tally) -> Result<(), AllocError> {
-        for i in 0..self.above.y {
-            let met = self.met(self.table.field(self.above.x.wrapping_add(i)));
+    fn count_fields(
+        &self,
+        tally: &mut Tally,
+        sub: Attrset,
+        sup: Attrset,
+    ) -> Result<(), AllocError> {
+        for i in 0..sup.count {
+            let met = self.met(sub, self.table.field(sup.first.wrapping_add(i)));
             tally.hit(Rule::Field(met))?;
             if met == Met::Missing {
                 return Ok(());
             }
         }
-        if image::says_dynamic(self.below.flags) && image::says_dynamic(self.above.flags) {
+        if sub.dynamic.is_some() && sup.dynamic.is_some() {
             tally.hit(Rule::Dynamics)?;
         }
         Ok(())
     }
 
     // How a field of sup is met in sub.
-    fn met(&self, field: Field) -> Met {
-        if self.table.has_field(self.below, field.name) {
+    fn met(&self, sub: Attrset, field: Field) -> Met {
+        if self.table.has_field(sub, field.name) {
             Met::Same
-        } else if image::says_dynamic(self.below.flags) {
+        } else if sub.dynamic.is_some() {
             Met::Dynamic
-        } else if image::says_open(self.below.flags) {
+        } else if sub.is_open {
             Met::Open
         } else if field.optional == OPTIONAL {
             Met::Optional

@@ -1,7 +1,7 @@
 // The table that every script is run in, and what is looked for in it.
 use crate::line::Line;
 use image::format::{BOUNDS, ENTRIES, INTER, NAMED, UNION, VARIABLE};
-use model::{Instalment, Record, Refusal};
+use model::{Attrset, Instalment, Record, Refusal};
 use std::alloc::{AllocError, Global};
 use table_words::{Entry, Field, Header, Stored, size_of};
 
@@ -196,8 +196,8 @@ impl Table {
     }
 
     // Whether an attrset has a field of this name.
-    pub fn has_field(&self, attrset: Entry, name: u32) -> bool {
-        (0..attrset.y).any(|i| self.field(attrset.x.wrapping_add(i)).name == name)
+    pub fn has_field(&self, attrset: Attrset, name: u32) -> bool {
+        (0..attrset.count).any(|i| self.field(attrset.first.wrapping_add(i)).name == name)
     }
 
     // Whether an entry is a variable.
