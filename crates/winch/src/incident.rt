@@ -1,8 +1,8 @@
 // The customer's incident as a script: a request that lacks a field is resent, a check that is timed out goes on, and a shape that
 // meets its own bound ends.
 use crate::run;
-use printing::write;
 use std::io;
+use std::io::Write;
 
 // Runs the script, or prints it.
 pub fn tell_incident(rt: &HostRuntime, is_shown: bool) -> io::Result<()> {
@@ -86,7 +86,7 @@ ask 0 0
 fn run_or_print(rt: &HostRuntime, is_shown: bool, script: &[u8]) -> io::Result<()> {
     let mut out = rt.stdout();
     if is_shown {
-        write(&mut out, script)
+        out.write_all(script)
     } else {
         run(rt, &mut out, script, false)
     }

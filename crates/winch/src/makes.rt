@@ -1,120 +1,106 @@
 // The verbs that make an entry, and those that put a mark, a bound or a level.
-use model::{Made, Reply};
-use script::verbs;
-use script::wrong::{MANY_LEVELS, wrong};
-use script_names::answers::{tell_done, tell_made, tell_number, tell_refusal};
-use std::io;
+use crate::session::Session;
+use model::Refusal;
+use script::args::{read, read_all};
+use script::first_words::Said;
+use script::text::Words;
+use script::verbs::Verb;
+use script::wrong::Why;
+use script_names::answers::Stop;
+use script_names::fields::{Attr, read_fields};
+use script_names::labels::{keep_new, label_number};
 use std::io::Write;
-use table_words::{entries, word};
+use table_words::Header;
 
 // As many levels as `level` goes up or down on one line.
 const LEVELS_MOST: u32 = 1000;
 
-// Makes an entry and tells its number.
-pub fn make<W: Write>(
-    out: &mut W,
-    names: &[u8],
-    words: &mut [u32],
-    verb: u32,
-    x: u32,
-    y: u32,
-) -> io::Result<()> {
-    let made = made(words, verb, x, y);
-    tell_made(out, names, made, entries(words))
-}
-
-// Makes an entry.
-fn made(words: &mut [u32], verb: u32, x: u32, y: u32) -> Made {
-    match verb {
-        verbs::VAR => sheafwinch::make_variable(words),
-        verbs::PRIM => sheafwinch::make_primitive(words, x),
-        verbs::LIST => sheafwinch::make_list(words, x),
-        verbs::NEG => sheafwinch::make_neg(words, x),
-        verbs::LAMBDA => sheafwinch::make_lambda(words, x, y),
-        verbs::INTER => sheafwinch::make_inter(words, x, y),
-        _ => sheafwinch::make_union(words, x, y),
+impl<'a, W: Write> Session<'a, W> {
+    // Makes an entry in the table's words and tells its number.
+    pub fn make<F: FnOnce(&mut [u32]) -> Result<u32, Refusal>>(
+        &mut self,
+        make: F,
+    ) -> Result<(), Stop<'a>>
+        requires { F.IsAlwaysCallable make }
+    {
+        let n = make(self.table.as_mut_slice())?;
+        self.tell_made(n)
     }
-}
 
-// Puts a mark, a bound or a variable's level; nothing is told when it is done.
-pub fn put<W: Write>(
-    out: &mut W,
-    names: &[u8],
-    words: &mut [u32],
-    verb: u32,
-    x: u32,
-    y: u32,
-    z: u32,
-) -> io::Result<()> {
-    let reply = reply_of(words, verb, x, y, z);
-    tell_done(out, names, reply)
-}
-
-// Puts what a verb says.
-fn reply_of(words: &mut [u32], verb: u32, x: u32, y: u32, z: u32) -> Reply {
-    match verb {
-        verbs::MARK => sheafwinch::mark(words, x),
-        verbs::BOUND => sheafwinch::put_bound(words, x, y, z),
-        _ => sheafwinch::set_level(words, x, y),
+    // Puts what a verb says in the table's words; nothing is told when it is done.
+    pub fn put<F: FnOnce(&mut [u32]) -> Result<(), Refusal>>(
+        &mut self,
+        put: F,
+    ) -> Result<(), Stop<'a>>
+        requires { F.IsAlwaysCallable put }
+    {
+        put(self.table.as_mut_slice())?;
+        Ok(())
     }
-}
 
-// Enters or leaves a level, and tells which it is now.
-pub fn move_level<W: Write>(
-    out: &mut W,
-    names: &[u8],
-    words: &mut [u32],
-    is_up: bool,
-) -> io::Result<()> {
-    match moved(words, is_up) {
-        Reply::Done => tell_number(out, b"level", level_of(words)),
-        Reply::Refused(r) => tell_refusal(out, names, r),
+    // An entry that was made, and how many there are.
+    fn tell_made(&mut self, n: u32) -> Result<(), Stop<'a>> {
+        let entries = Header::from(self.table.as_slice()).counts.entries;
+        writeln!(self.out, "= {n} {entries}")?;
+        Ok(())
     }
-}
 
-// A level up or down.
-fn moved(words: &mut [u32], is_up: bool) -> Reply {
-    if is_up {
-        sheafwinch::enter(words)
-    } else {
-        sheafwinch::exit(words)
+    // `attr OPEN DYN N (NAME E OPT)..`
+    pub fn make_attrset(&mut self, words: Words<'a>) -> Result<(), Stop<'a>> {
+        let attr = Attr::try_from(words)?;
+        let fields = read_fields(&self.desk, attr.fields)?;
+        let n = sheafwinch::make_attrset(
+            self.table.as_mut_slice(),
+            fields.as_slice().as_flattened(),
+            attr.is_open,
+            attr.dynamic,
+        )?;
+        self.tell_made(n)
     }
-}
 
-// The current level.
-fn level_of(words: &[u32]) -> u32 {
-    word(words, image::format::LEVEL_AT)
-}
-
-// Goes to a level by as many levels up or down; nothing is told when it is done.
-pub fn go_to_level<W: Write>(
-    out: &mut W,
-    desk: &mut [u32; 10256],
-    names: &[u8],
-    words: &mut [u32],
-    level: u32,
-) -> io::Result<()> {
-    let current = level_of(words);
-    let is_up = current < level;
-    let count = distance(current, level);
-    if LEVELS_MOST < count {
-        return wrong(out, desk, MANY_LEVELS);
+    // `named E LABEL`
+    pub fn make_named(&mut self, words: Words<'a>) -> Result<(), Stop<'a>> {
+        let mut rest = words;
+        let (Some(inner), Some(label), None) = (rest.next(), rest.next(), rest.next()) else {
+            return Err(Stop::from(Why::Count {
+                verb: Verb::Named,
+                got: words.count(),
+            }));
+        };
+        let inner = read(inner)?;
+        let number = label_number(self.desk.labels.as_slice(), label)?;
+        let n = sheafwinch::make_named(self.table.as_mut_slice(), inner, number)?;
+        keep_new(&mut self.desk.labels, number, label)?;
+        self.tell_made(n)
     }
-    tell_done(out, names, move_levels(words, is_up, count))
-}
 
-// How far two levels are apart.
-fn distance(a: u32, b: u32) -> u32 {
-    if a < b { b - a } else { a - b }
-}
+    // The current level.
+    fn level(&self) -> u32 {
+        Header::from(self.table.as_slice()).level
+    }
 
-// So many levels up or down.
-fn move_levels(words: &mut [u32], is_up: bool, count: u32) -> Reply {
-    for _ in 0..count {
-        match moved(words, is_up) {
-            Reply::Done => {}
-            Reply::Refused(r) => return Reply::Refused(r),
+    // Tells the current level.
+    pub fn tell_level(&mut self) -> Result<(), Stop<'a>> {
+        let level = self.level();
+        writeln!(self.out, "level {level}")?;
+        Ok(())
+    }
+
+    // Goes to a level by as many levels up or down; nothing is told when it is done.
+    pub fn go_to_level(&mut self, level: u32) -> Result<(), Stop<'a>> {
+        let current = self.level();
+        let count = current.abs_diff(level);
+        if LEVELS_MOST < count {
+            return Err(Stop::from(Why::ManyLevels));
         }
+        for _ in 0..count {
+            let table = self.table.as_mut_slice();
+            if current < level {
+                sheafwinch::enter(table)?;
+            } else {
+                sheafwinch::exit(table)?;
+            }
+        }
+        Ok(())
     }
-    Reply::Done
 }

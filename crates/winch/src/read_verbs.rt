@@ -1,130 +1,108 @@
 // The verbs that read the table, and the operators.
-use dumps::{records, shown};
-use model::{Disjointness, EntryRead};
-use operators::Resolved;
-use printing::{index_of, write};
-use script::args::{Arg, read};
-use script::print::print_next;
-use script::text::{Number, Word, bytes_of, count_words, next_word, number_in};
-use script::verbs;
-use script::wrong::{NO_REGION, wrong_after, wrong_count};
-use script_names::answers::{tell_number, tell_refusal};
-use std::io;
+use crate::session::{Session, shown};
+use dumps::records;
+use dumps::shown::Shown;
+use script::args::{read, read_all};
+use script::first_words::Said;
+use script::text::{Words, number_in};
+use script::verbs::Verb;
+use script::wrong::Why;
+use script_names::answers::Stop;
+use script_names::name_lists::{tell_compared, tell_found, tell_name};
 use std::io::Write;
-use table_words::word;
-use told_in_words::REGIONS;
+use std::{fmt, io};
+use told_in_words::{NoRegion, Region};
 
-// `entry N`: an entry, as a dump shows it.
-pub fn tell_entry<W: Write>(
-    out: &mut W,
-    text: &[u8],
-    desk: &[u32; 10256],
-    names: &[u8],
-    words: &[u32],
-    n: u32,
-) -> io::Result<()> {
-    match sheafwinch::entry(words, n) {
-        EntryRead::Entry(_) => shown::tell_entry(out, text, desk, names, words, n),
-        EntryRead::Refused(r) => tell_refusal(out, names, r),
+impl<'a, W: Write> Session<'a, W> {
+    // Shows what a verb says of the table.
+    pub fn show<F: FnOnce(Shown<'_>, &mut W) -> io::Result<()>>(
+        &mut self,
+        show: F,
+    ) -> Result<(), Stop<'a>>
+        requires { F.IsAlwaysCallable show }
+    {
+        show(shown(&self.desk, &self.table), self.out)?;
+        Ok(())
     }
-}
 
-// `record REGION N`: a record as it stands.
-pub fn tell_record<W: Write>(
-    out: &mut W,
-    text: &[u8],
-    desk: &mut [u32; 10256],
-    names: &[u8],
-    words: &[u32],
-    verb: Word,
-) -> io::Result<()> {
-    let got = count_words(text, verb.end);
-    if got != 2 {
-        return wrong_count(out, desk, verbs::RECORD, got);
+    // Tells what a verb says of the table's name list.
+    pub fn read_names<F: FnOnce(&mut W, &[u8]) -> Result<(), Stop<'a>>>(
+        &mut self,
+        tell: F,
+    ) -> Result<(), Stop<'a>>
+        requires { F.IsAlwaysCallable tell }
+    {
+        tell(self.out, self.desk.names.as_slice())
     }
-    let word = next_word(text, verb.end);
-    let Arg::Number(region) = read_region(out, desk, text, word)? else {
-        return Ok(());
-    };
-    let Arg::Number(n) = read(out, desk, text, next_word(text, word.end))? else {
-        return Ok(());
-    };
-    print_record(out, names, words, region, n)
-}
 
-// A record of a region.
-fn print_record<W: Write>(
-    out: &mut W,
-    names: &[u8],
-    words: &[u32],
-    region: u32,
-    n: u32,
-) -> io::Result<()> {
-    records::tell_record(out, names, region, n, sheafwinch::record(words, region, n))
+    // `entry N`: an entry, as a dump shows it.
+    pub fn tell_entry(&mut self, n: u32) -> Result<(), Stop<'a>> {
+        sheafwinch::entry(self.table.as_slice(), n)?;
+        shown(&self.desk, &self.table).tell_entry(self.out, n)?;
+        Ok(())
+    }
+
+    // `record REGION N`: a record as it stands.
+    pub fn tell_record(&mut self, words: Words<'a>) -> Result<(), Stop<'a>> {
+        let mut rest = words;
+        let (Some(region), Some(n), None) = (rest.next(), rest.next(), rest.next()) else {
+            return Err(Stop::from(Why::Count {
+                verb: Verb::Record,
+                got: words.count(),
+            }));
+        };
+        let region = read_region(region)?;
+        let n = read(n)?;
+        let record = sheafwinch::record(self.table.as_slice(), region, n)?;
+        records::tell_record(self.out, n, record)?;
+        Ok(())
+    }
+
+    // `disjoint A B`
+    pub fn tell_disjoint(&mut self, left: u32, right: u32) -> Result<(), Stop<'a>> {
+        let answer = u32::from(sheafwinch::disjoint(self.table.as_slice(), left, right)?);
+        writeln!(self.out, "disjoint {answer}")?;
+        Ok(())
+    }
+
+    // `check`
+    pub fn tell_check(&mut self) -> Result<(), Stop<'a>> {
+        let answer = if formed::check(self.table.as_slice()) {
+            "well formed"
+        } else {
+            "not well formed"
+        };
+        writeln!(self.out, "{answer}")?;
+        Ok(())
+    }
+
+    // `op OP L R`: the result, what is known from the left, what is bound at once.
+    pub fn tell_operator(&mut self, op: u32, left: u32, right: u32) -> Result<(), Stop<'a>> {
+        let whole = Known(operators::resolve(op, left, right)?);
+        let from_left = Known(operators::from_left(op, left)?);
+        let at_once = Known(operators::at_once(op)?);
+        writeln!(self.out, "op {whole} {from_left} {at_once}")?;
+        Ok(())
+    }
 }
 
 // A region, by its name or its number.
-fn read_region<W: Write>(
-    out: &mut W,
-    desk: &mut [u32; 10256],
-    text: &[u8],
-    word: Word,
-) -> io::Result<Arg> {
-    let index = index_of(&REGIONS, bytes_of(text, word));
-    if index < image::format::EQUALS {
-        return Ok(Arg::Number(index + 1));
+fn read_region<'a>(word: &'a [u8]) -> Result<u32, Why<'a>> {
+    match Region::try_from(word) {
+        Ok(region) => Ok(region as u32),
+        Err(NoRegion) => number_in(word).map_err(|_| Why::NoRegion(word)),
     }
-    match number_in(bytes_of(text, word)) {
-        Number::Value(n) => Ok(Arg::Number(n)),
-        _ => {
-            wrong_after(out, desk, NO_REGION, bytes_of(text, word))?;
-            Ok(Arg::Wrong)
+}
+
+// A primitive, shown as -1 where there is none.
+#[derive(Clone, Copy)]
+struct Known(Option<u32>);
+
+impl fmt::Display for Known {
+    fn fmt<W: fmt::Write>(&self, f: &mut fmt::Formatter<W>) -> fmt::Result {
+        match self.0 {
+            Some(p) => write!(f, "{p}"),
+            None => write!(f, "-1"),
         }
-    }
-}
-
-// `disjoint A B`
-pub fn tell_disjoint<W: Write>(
-    out: &mut W,
-    names: &[u8],
-    words: &[u32],
-    left: u32,
-    right: u32,
-) -> io::Result<()> {
-    match sheafwinch::disjoint(words, left, right) {
-        Disjointness::Disjoint => tell_number(out, b"disjoint", 1),
-        Disjointness::NotDisjoint => tell_number(out, b"disjoint", 0),
-        Disjointness::Refused(r) => tell_refusal(out, names, r),
-    }
-}
-
-// `check`
-pub fn tell_check<W: Write>(out: &mut W, words: &[u32]) -> io::Result<()> {
-    if formed::check(words) {
-        write(out, b"well formed\n")
-    } else {
-        write(out, b"not well formed\n")
-    }
-}
-
-// `op OP L R`: the result, what is known from the left, what is bound at once.
-pub fn tell_operator<W: Write>(out: &mut W, op: u32, left: u32, right: u32) -> io::Result<()> {
-    match operators::resolve(op, left, right) {
-        Resolved::Refused(r) => tell_refusal(out, b"", r),
-        resolved => {
-            write(out, b"op")?;
-            print_resolved(out, resolved)?;
-            print_resolved(out, operators::from_left(op, left))?;
-            print_resolved(out, operators::at_once(op))?;
-            write(out, b"\n")
-        }
-    }
-}
-
-// A primitive, -1 where there is none.
-fn print_resolved<W: Write>(out: &mut W, r: Resolved) -> io::Result<()> {
-    match r {
-        Resolved::Primitive(p) => print_next(out, p),
-        _ => write(out, b" -1"),
     }
 }
