@@ -8,7 +8,7 @@ use script::text::{Words, number_in};
 use script::verbs::Verb;
 use script::wrong::Why;
 use script_names::answers::Stop;
-use script_names::name_lists::{tell_compared, tell_found, tell_name};
+use script_names::name_lists;
 use std::io::Write;
 use std::{fmt, io};
 use told_in_words::{NoRegion, Region};
@@ -25,14 +25,19 @@ impl<'a, W: Write> Session<'a, W> {
         Ok(())
     }
 
-    // Tells what a verb says of the table's name list.
-    pub fn read_names<F: FnOnce(&mut W, &[u8]) -> Result<(), Stop<'a>>>(
-        &mut self,
-        tell: F,
-    ) -> Result<(), Stop<'a>>
-        requires { F.IsAlwaysCallable tell }
-    {
-        tell(self.out, self.desk.names.as_slice())
+    // `name N`
+    pub fn tell_name(&mut self, n: u32) -> Result<(), Stop<'a>> {
+        name_lists::tell_name(self.out, self.desk.names.as_slice(), n)
+    }
+
+    // `find NAME`
+    pub fn tell_found(&mut self, words: Words<'a>) -> Result<(), Stop<'a>> {
+        name_lists::tell_found(self.out, self.desk.names.as_slice(), words)
+    }
+
+    // `compare I J`
+    pub fn tell_compared(&mut self, i: u32, j: u32) -> Result<(), Stop<'a>> {
+        name_lists::tell_compared(self.out, self.desk.names.as_slice(), i, j)
     }
 
     // `entry N`: an entry, as a dump shows it.

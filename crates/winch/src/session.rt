@@ -10,9 +10,7 @@ use script::text::{Line, Lines, Words};
 use script::verbs::Verb;
 use script::wrong::wrong;
 use script_names::answers::{Stop, tell_refusal};
-use script_names::name_lists::{
-    capacities, count_of, functor_of, make_list, tell_compared, tell_found, tell_name,
-};
+use script_names::name_lists::{capacities, count_of, functor_of, make_list};
 use std::io;
 use std::io::Write;
 use table_words::{is_small, largest, size_of};
@@ -180,12 +178,12 @@ impl<'a, W: Write> Session<'a, W> {
             }
             Verb::Name => {
                 let [n] = read_all::<1>(verb, words)?;
-                self.read_names(|out, names| tell_name(out, names, n))
+                self.tell_name(n)
             }
-            Verb::Find => self.read_names(|out, names| tell_found(out, names, words)),
+            Verb::Find => self.tell_found(words),
             Verb::Compare => {
                 let [i, j] = read_all::<2>(verb, words)?;
-                self.read_names(|out, names| tell_compared(out, names, i, j))
+                self.tell_compared(i, j)
             }
             Verb::Dump => {
                 let [] = read_all::<0>(verb, words)?;
