@@ -17,7 +17,7 @@ use Rattle.model.specs.Shapes.{fields_of, field_named, functor_in, functor_of, h
 use Rattle.image.specs.Laid.{Laid}
 use Rattle.image.specs.Shown.{fields_in}
 use Rattle.image.specs.Records.{field_at}
-use Rattle.image.proofs.Reading.{fields_count}
+use Rattle.image.specs.Reading.{fields_count}
 use Rattle.disjoint.specs.Fields.{found_from, number_named, functor_number, functor_record, field_found, FoundInside}
 
 -- there are few of them

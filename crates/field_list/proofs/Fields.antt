@@ -15,7 +15,7 @@ use Rattle.model.specs.Image.{word, field_of}
 use Rattle.model.specs.Formed.{ascend_from, names_ascend}
 use Rattle.model.specs.Calls.{field_list, fields_listed}
 use Rattle.laws.proofs.Regions.{read_length}
-use Rattle.image.proofs.Reading.{read_at}
+use Rattle.image.specs.Reading.{read_at}
 
 -- the field at word n
 abbrev field_from : List ℕ → ℕ → Field

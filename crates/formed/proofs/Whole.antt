@@ -19,7 +19,7 @@ use Rattle.laws.proofs.Regions.{parts}
 use Rattle.laws.proofs.Round.{regions_laid}
 use Rattle.image.specs.Laid.{Laid}
 use Rattle.image.specs.Shown.{entries_of}
-use Rattle.image.proofs.Reading.{entries_count}
+use Rattle.image.specs.Reading.{entries_count}
 use Rattle.formed.specs.Grouped.{header_right, RegionInside, pair_of}
 use Rattle.formed.proofs.Tested.{all_append}
 use Rattle.formed.proofs.Walked.{pairs_are}

@@ -1,5 +1,4 @@
 pub mod Reach
-pub mod Reading
 pub mod ReadOut
 pub mod Laying
 pub mod Searching

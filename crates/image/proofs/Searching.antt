@@ -17,7 +17,7 @@ use Rattle.model.specs.Image.{offset, count, visited_of, records_of, table}
 use Rattle.model.specs.Rules.{same_pair, is_visited}
 use Rattle.laws.proofs.Regions.{read_length}
 use Rattle.image.specs.Shown.{store_of}
-use Rattle.image.proofs.Reading.{read_at}
+use Rattle.image.specs.Reading.{read_at}
 use Rattle.image.proofs.Lent.{tail_part}
 
 left_false : (x y : Bool) → (x || y) ≡ false → x ≡ false

@@ -5,6 +5,7 @@
 #![tactic(auto)]
 
 pub mod format;
+pub mod regions;
 
 ghost use Rattle.std.specs.Prelude.{◌≡◌, ◌+◌, ◌-◌, ◌*◌, ◌≤◌, ◌<◌, length, drop};
 ghost use Rattle.model.specs.Format.{word_end, capacity_at, count_at, entry_width, field_width, bound_width, visited_width, pending_width, equals_width};
@@ -16,6 +17,8 @@ ghost use Rattle.model.specs.Rules.{same_pair, is_visited};
 ghost use Rattle.image.specs.Laid.{Laid, At};
 ghost use Rattle.image.specs.Shown.{Shown, store_of, entries_of, fields_in, bounds_all, visited_in, pending_in, equals_in};
 ghost use Rattle.image.specs.Records.{field_at, bound_at, visited_at, pending_at, equal_at, says_mark, says_open, says_dynamic, dynamic_read, attrset_read};
+
+pub use regions::{Bounds, Entries, Equals, Fields, Pending, Region, Visited, capacity, count, word};
 
 use model::{Attrset, Entry};
 
@@ -38,106 +41,6 @@ pub fn wide(x: u32) -> usize
     ensures { result ≡ x }
 {
     x as usize
-}
-
-// How many records a region has, and how many it takes.
-pub fn count(image: &[u32], region: usize) -> u32
-    requires { count_at region < length image.now }
-    ensures { result ≡ count image.now region }
-{
-    image[format::COUNT_AT + format::REGION_STEP * region]
-}
-
-pub fn capacity(image: &[u32], region: usize) -> u32
-    requires { capacity_at region < length image.now }
-    ensures { result ≡ capacity image.now region }
-{
-    image[format::CAPACITY_AT + format::REGION_STEP * region]
-}
-
-// The same by name.
-pub fn entries_count(image: &[u32]) -> u32
-    requires { Laid image.now }
-    ensures { result ≡ length (entries_of image.now) }
-{
-    count(image, format::IN_ENTRIES)
-}
-
-pub fn fields_count(image: &[u32]) -> u32
-    requires { Laid image.now }
-    ensures { result ≡ length (fields_in image.now) }
-{
-    count(image, format::IN_FIELDS)
-}
-
-pub fn bounds_count(image: &[u32]) -> u32
-    requires { Laid image.now }
-    ensures { result ≡ length (bounds_all image.now) }
-{
-    count(image, format::IN_BOUNDS)
-}
-
-pub fn visited_count(image: &[u32]) -> u32
-    requires { Laid image.now }
-    ensures { result ≡ length (visited_in image.now) }
-{
-    count(image, format::IN_VISITED)
-}
-
-pub fn pending_count(image: &[u32]) -> u32
-    requires { Laid image.now }
-    ensures { result ≡ length (pending_in image.now) }
-{
-    count(image, format::IN_PENDING)
-}
-
-pub fn equals_count(image: &[u32]) -> u32
-    requires { Laid image.now }
-    ensures { result ≡ length (equals_in image.now) }
-{
-    count(image, format::IN_EQUALS)
-}
-
-pub fn entries_capacity(image: &[u32]) -> u32
-    requires { Laid image.now }
-    ensures { result ≡ (store_of image.now).capacities.entries }
-{
-    capacity(image, format::IN_ENTRIES)
-}
-
-pub fn fields_capacity(image: &[u32]) -> u32
-    requires { Laid image.now }
-    ensures { result ≡ (store_of image.now).capacities.fields }
-{
-    capacity(image, format::IN_FIELDS)
-}
-
-pub fn bounds_capacity(image: &[u32]) -> u32
-    requires { Laid image.now }
-    ensures { result ≡ (store_of image.now).capacities.bounds }
-{
-    capacity(image, format::IN_BOUNDS)
-}
-
-pub fn visited_capacity(image: &[u32]) -> u32
-    requires { Laid image.now }
-    ensures { result ≡ (store_of image.now).capacities.visited }
-{
-    capacity(image, format::IN_VISITED)
-}
-
-pub fn pending_capacity(image: &[u32]) -> u32
-    requires { Laid image.now }
-    ensures { result ≡ (store_of image.now).capacities.pending }
-{
-    capacity(image, format::IN_PENDING)
-}
-
-pub fn equals_capacity(image: &[u32]) -> u32
-    requires { Laid image.now }
-    ensures { result ≡ (store_of image.now).capacities.equals }
-{
-    capacity(image, format::IN_EQUALS)
 }
 
 // The rest of the header: how many names there are, the functor word, the current level and the break.
@@ -190,71 +93,6 @@ pub fn break_name(image: &[u32]) -> u32
     image[format::BREAK_NAME_AT]
 }
 
-// Word j of entry i.
-pub fn entry_word(image: &[u32], i: u32, j: usize) -> u32
-    requires laid { Laid image.now }
-    requires i_in_bounds { i < length (entries_of image.now) }
-    requires j_lt_entry_width { j < entry_width }
-    ensures { result ≡ word (entry_words (entry_at (entries_of image.now) i)) j }
-{
-    image[format::HEADER_WORDS + format::ENTRY_WIDTH * wide(i) + j]
-}
-
-// Word j of record i of a region, whose records are so wide.
-fn record_word(image: &[u32], region: usize, width: usize, i: u32, j: usize) -> u32
-    requires at { At image.now region width }
-    requires i_bound { (i < count image.now region) × (j < width) }
-    ensures { result ≡ word image.now (offset image.now region + width * i + j) }
-{
-    image[wide(image[format::OFFSET_AT + format::REGION_STEP * region]) + width * wide(i) + j]
-}
-
-// The same by name.
-pub fn field_word(image: &[u32], i: u32, j: usize) -> u32
-    requires laid { Laid image.now }
-    requires i_in_bounds { i < length (fields_in image.now) }
-    requires j_lt_field_width { j < field_width }
-    ensures { result ≡ word (field_words (field_at (fields_in image.now) i)) j }
-{
-    record_word(image, format::IN_FIELDS, format::FIELD_WIDTH, i, j)
-}
-
-pub fn bound_word(image: &[u32], i: u32, j: usize) -> u32
-    requires laid { Laid image.now }
-    requires i_in_bounds { i < length (bounds_all image.now) }
-    requires j_lt_bound_width { j < bound_width }
-    ensures { result ≡ word (bound_words (bound_at (bounds_all image.now) i)) j }
-{
-    record_word(image, format::IN_BOUNDS, format::BOUND_WIDTH, i, j)
-}
-
-pub fn visited_word(image: &[u32], i: u32, j: usize) -> u32
-    requires laid { Laid image.now }
-    requires i_in_bounds { i < length (visited_in image.now) }
-    requires j_lt_visited_width { j < visited_width }
-    ensures { result ≡ word (visited_words (visited_at (visited_in image.now) i)) j }
-{
-    record_word(image, format::IN_VISITED, format::VISITED_WIDTH, i, j)
-}
-
-pub fn pending_word(image: &[u32], i: u32, j: usize) -> u32
-    requires laid { Laid image.now }
-    requires i_in_bounds { i < length (pending_in image.now) }
-    requires j_lt_pending_width { j < pending_width }
-    ensures { result ≡ word (pending_words (pending_at (pending_in image.now) i)) j }
-{
-    record_word(image, format::IN_PENDING, format::PENDING_WIDTH, i, j)
-}
-
-pub fn equal_word(image: &[u32], i: u32, j: usize) -> u32
-    requires laid { Laid image.now }
-    requires i_in_bounds { i < length (equals_in image.now) }
-    requires j_lt_equals_width { j < equals_width }
-    ensures { result ≡ word (equal_words (equal_at (equals_in image.now) i)) j }
-{
-    record_word(image, format::IN_EQUALS, format::EQUALS_WIDTH, i, j)
-}
-
 // Whether these flags say marked, whether they say open, and whether they say that there is a dynamic type.
 pub fn says_mark(flags: u32) -> bool
     ensures { result ≡ says_mark flags }
@@ -299,11 +137,11 @@ pub fn entry(image: &[u32], i: u32) -> Entry
     requires i_in_bounds { i < length (entries_of image.now) }
     ensures { result ≡ read_out (entry_at (entries_of image.now) i) }
 {
-    let kind = entry_word(image, i, format::KIND_WORD);
-    let x = entry_word(image, i, format::X_WORD);
-    let y = entry_word(image, i, format::Y_WORD);
-    let z = entry_word(image, i, format::Z_WORD);
-    let flags = entry_word(image, i, format::FLAGS_WORD);
+    let kind = word::<Entries>(image, i, format::KIND_WORD);
+    let x = word::<Entries>(image, i, format::X_WORD);
+    let y = word::<Entries>(image, i, format::Y_WORD);
+    let z = word::<Entries>(image, i, format::Z_WORD);
+    let flags = word::<Entries>(image, i, format::FLAGS_WORD);
     match kind {
         0 => Entry::Variable { level: x },
         1 => Entry::Primitive(x),

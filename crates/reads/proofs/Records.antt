@@ -12,7 +12,7 @@ use borrow.Author.Tests.{lt-ltb, le-ltb, lt-leb}
 use Rattle.model.specs.Format.{is_region}
 use Rattle.model.specs.Image.{offset, count, records_of}
 use Rattle.laws.proofs.Regions.{Coded}
-use Rattle.image.proofs.Reading.{read_at}
+use Rattle.image.specs.Reading.{read_at}
 
 -- region k has no record n, or has it
 pub no_record : (w : List ℕ) (k n : ℕ) → count w k ≤ n → (is_region k && ltb n (count w k)) ≡ false

@@ -12,7 +12,7 @@ use Rattle.laws.proofs.Regions.{entry_coded}
 use Rattle.image.specs.Laid.{Laid}
 use Rattle.image.specs.Shown.{ShowsAs, Shows, Shown, store_of, entries_of, fields_in, bounds_all, visited_in, pending_in, equals_in, entries_to}
 use Rattle.image.proofs.Laying.{shown_laid}
-use Rattle.image.proofs.Reading.{entries_count, fields_count, bounds_count, visited_count, pending_count, equals_count}
+use Rattle.image.specs.Reading.{entries_count, fields_count, bounds_count, visited_count, pending_count, equals_count}
 use Rattle.writes.proofs.Slots.{entries_slot, slot_put}
 
 -- what omega needs of words that show a table: the layout, and the table's counts and capacities as header words

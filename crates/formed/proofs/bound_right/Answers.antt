@@ -9,7 +9,7 @@ use Rattle.model.specs.Format.{variable, upper}
 use Rattle.model.specs.Table.{is_at}
 use Rattle.model.specs.Formed.{is_entry, bound_right}
 use Rattle.image.specs.Shown.{entries_of}
-use Rattle.image.proofs.Reading.{entries_count}
+use Rattle.image.specs.Reading.{entries_count}
 use Rattle.formed.proofs.Tested.{two_fail, third_fails, fourth_decides}
 use Rattle.formed.proofs.bound_right.Goals as goal
 

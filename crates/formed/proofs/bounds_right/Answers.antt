@@ -5,7 +5,7 @@ use borrow.Author.Rules.{rules}
 use Rattle.model.specs.Lists.{all}
 use Rattle.model.specs.Formed.{bound_right}
 use Rattle.image.specs.Shown.{entries_of, bounds_all}
-use Rattle.image.proofs.Reading.{bounds_count}
+use Rattle.image.specs.Reading.{bounds_count}
 use Rattle.formed.proofs.Walked.{all_step, all_end, all_fails}
 use Rattle.formed.proofs.bounds_right.Goals as goal
 

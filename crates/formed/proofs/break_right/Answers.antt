@@ -2,7 +2,7 @@
 use borrow.Author.Tests.{eq-eqb, ne_eqb}
 use Rattle.model.specs.Image.{table}
 use Rattle.model.specs.Formed.{is_entry, break_right}
-use Rattle.image.proofs.Reading.{entries_count}
+use Rattle.image.specs.Reading.{entries_count}
 use Rattle.formed.proofs.break_right.Goals as goal
 
 pub returns-then-kind-eq-UNBROKEN : goal.returns-then-kind-eq-UNBROKEN

@@ -1,6 +1,6 @@
 -- `formed::field_right` meets its contract. Assumes nothing.
 use Rattle.model.specs.Formed.{is_entry, field_right}
-use Rattle.image.proofs.Reading.{entries_count}
+use Rattle.image.specs.Reading.{entries_count}
 use Rattle.formed.proofs.field_right.Goals as goal
 
 pub returns : goal.returns

@@ -6,7 +6,7 @@ use borrow.Author.Rules.{rules}
 use Rattle.model.specs.Lists.{all}
 use Rattle.model.specs.Formed.{field_right}
 use Rattle.image.specs.Shown.{entries_of, fields_in}
-use Rattle.image.proofs.Reading.{fields_count}
+use Rattle.image.specs.Reading.{fields_count}
 use Rattle.formed.proofs.Walked.{all_step, all_end}
 use Rattle.formed.proofs.fields_right.Goals as goal
 

@@ -5,7 +5,7 @@ use borrow.Author.Tests.{lt-ltb, le-ltb}
 use Rattle.model.specs.Table.{is, is_at}
 use Rattle.model.specs.Formed.{is_entry}
 use Rattle.image.specs.Shown.{entries_of}
-use Rattle.image.proofs.Reading.{entries_count}
+use Rattle.image.specs.Reading.{entries_count}
 use Rattle.formed.proofs.is_variable.Goals as goal
 
 pub entry_word-requires-clause-i_in_bounds : goal.entry_word-requires-clause-i_in_bounds

@@ -12,7 +12,7 @@ use Rattle.model.specs.Calls.{read_record_turn, response_of}
 use Rattle.model.specs.Told.{done}
 use Rattle.laws.proofs.Regions.{bound_coded}
 use Rattle.image.proofs.Laying.{formed_laid}
-use Rattle.image.proofs.Reading.{bounds_count as bounds-are}
+use Rattle.image.specs.Reading.{bounds_count as bounds-are}
 use Rattle.model.specs.declared.Refusal.TheVariants.{BadNumber}
 use Rattle.turns.proofs.Turning.{stopped, read_on}
 use Rattle.reads.proofs.Records.{no_record, a_record, record_words}

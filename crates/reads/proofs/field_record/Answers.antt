@@ -12,7 +12,7 @@ use Rattle.model.specs.Calls.{read_record_turn, response_of}
 use Rattle.model.specs.Told.{done}
 use Rattle.laws.proofs.Regions.{field_coded}
 use Rattle.image.proofs.Laying.{formed_laid}
-use Rattle.image.proofs.Reading.{fields_count as fields-are}
+use Rattle.image.specs.Reading.{fields_count as fields-are}
 use Rattle.model.specs.declared.Refusal.TheVariants.{BadNumber}
 use Rattle.turns.proofs.Turning.{stopped, read_on}
 use Rattle.reads.proofs.Records.{no_record, a_record, record_words}

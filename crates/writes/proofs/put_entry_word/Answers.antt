@@ -1,5 +1,5 @@
 -- `put_entry_word`: writes word j of entry i.
-use Rattle.image.proofs.Reading.{entries_count}
+use Rattle.image.specs.Reading.{entries_count}
 use native.Mathlib.Omega.{arith}
 use Rattle.writes.proofs.put_entry_word.Goals as goal
 

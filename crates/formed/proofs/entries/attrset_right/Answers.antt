@@ -11,7 +11,7 @@ use Rattle.model.specs.Table.{is}
 use Rattle.model.specs.Shapes.{fields_of}
 use Rattle.model.specs.Formed.{names_ascend, fields_right}
 use Rattle.image.specs.Shown.{store_of, fields_in}
-use Rattle.image.proofs.Reading.{fields_count}
+use Rattle.image.specs.Reading.{fields_count}
 use Rattle.formed.specs.Grouped.{entry_told, own_right}
 use Rattle.formed.proofs.entries.attrset_right.Goals as goal
 

@@ -6,7 +6,7 @@ use borrow.Author.Rules.{rules}
 use Rattle.model.specs.Lists.{all_from}
 use Rattle.model.specs.Table.{no_entry}
 use Rattle.image.specs.Shown.{entries_of}
-use Rattle.image.proofs.Reading.{entries_count}
+use Rattle.image.specs.Reading.{entries_count}
 use Rattle.formed.specs.Grouped.{entry_right_in}
 use Rattle.formed.proofs.Walked.{from_step, from_end}
 use Rattle.formed.proofs.entries.entries_right.Goals as goal

@@ -1,6 +1,6 @@
 -- `formed::entries::negation_known` meets its contract. Assumes nothing.
 use Rattle.model.specs.Formed.{negation_known}
-use Rattle.image.proofs.Reading.{entries_count}
+use Rattle.image.specs.Reading.{entries_count}
 use Rattle.formed.proofs.entries.negation_known.Goals as goal
 
 pub returns : goal.returns

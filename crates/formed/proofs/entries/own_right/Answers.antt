@@ -3,7 +3,7 @@ use native.Mathlib.Omega.{arith}
 use borrow.Author.Rules.{rules}
 use Rattle.model.specs.Image.{table}
 use Rattle.image.specs.Shown.{fields_in}
-use Rattle.image.proofs.Reading.{fields_count}
+use Rattle.image.specs.Reading.{fields_count}
 use Rattle.formed.proofs.Owned.{own_start, own_step, own_end}
 use Rattle.formed.proofs.entries.own_right.Goals as goal
 

@@ -4,7 +4,7 @@ use mathlib.Core.Path.{sym, ap}
 use lib.ListN.{get_or-eq_default}
 use Rattle.model.specs.Table.{Entry, no_entry}
 use Rattle.image.specs.Shown.{entries_of}
-use Rattle.image.proofs.Reading.{entries_count}
+use Rattle.image.specs.Reading.{entries_count}
 use Rattle.formed.proofs.entries.spread_at.Goals as goal
 
 pub entry_word-requires-clause-i_in_bounds : goal.entry_word-requires-clause-i_in_bounds
