@@ -11,6 +11,7 @@ ghost use Rattle.model.specs.Calls.{response_of, variable_turn, primitive_turn, 
 ghost use Rattle.model.specs.Told.{told_made, told_reply};
 ghost use Rattle.image.specs.Shown.{entries_of};
 
+use image::Entries;
 use model::Refusal;
 
 // Makes a variable at the current level.
@@ -51,7 +52,7 @@ pub fn one_in(image: &mut [u32], kind: u32, x: u32, label: u32) -> Result<u32, R
     if image::is_asked(image) {
         return Err(Refusal::Busy);
     }
-    if image::entries_count(image) <= x {
+    if image::count::<Entries>(image) <= x {
         return Err(Refusal::BadNumber);
     }
     type_table::make(image, kind, x, label)
@@ -66,10 +67,10 @@ pub fn two_in(image: &mut [u32], kind: u32, x: u32, y: u32) -> Result<u32, Refus
     if image::is_asked(image) {
         return Err(Refusal::Busy);
     }
-    if image::entries_count(image) <= x {
+    if image::count::<Entries>(image) <= x {
         return Err(Refusal::BadNumber);
     }
-    if image::entries_count(image) <= y {
+    if image::count::<Entries>(image) <= y {
         return Err(Refusal::BadNumber);
     }
     type_table::make(image, kind, x, y)
@@ -84,7 +85,7 @@ pub fn neg_in(image: &mut [u32], n: u32) -> Result<u32, Refusal>
     if image::is_asked(image) {
         return Err(Refusal::Busy);
     }
-    if image::entries_count(image) <= n {
+    if image::count::<Entries>(image) <= n {
         return Err(Refusal::BadNumber);
     }
     type_table::make_neg(image, n)
@@ -97,7 +98,7 @@ fn dynamic_known(image: &[u32], dynamic: Option<u32>) -> bool
 {
     match dynamic {
         None => true,
-        Some(n) => n < image::entries_count(image),
+        Some(n) => n < image::count::<Entries>(image),
     }
 }
 
@@ -118,7 +119,7 @@ pub fn attrset_in(
     if !field_list::listed(image::name_count(image), fields) {
         return Err(Refusal::BadFields);
     }
-    if !field_list::known(image::entries_count(image), fields) {
+    if !field_list::known(image::count::<Entries>(image), fields) {
         return Err(Refusal::BadNumber);
     }
     if !dynamic_known(image, dynamic) {
@@ -136,7 +137,7 @@ pub fn mark_in(image: &mut [u32], n: u32) -> Result<(), Refusal>
     if image::is_asked(image) {
         return Err(Refusal::Busy);
     }
-    if image::entries_count(image) <= n {
+    if image::count::<Entries>(image) <= n {
         return Err(Refusal::BadNumber);
     }
     storage::mark(image, n);
@@ -152,16 +153,16 @@ pub fn bound_in(image: &mut [u32], v: u32, side: u32, b: u32) -> Result<(), Refu
     if image::is_asked(image) {
         return Err(Refusal::Busy);
     }
-    if image::entries_count(image) <= v {
+    if image::count::<Entries>(image) <= v {
         return Err(Refusal::BadNumber);
     }
     if image::format::UPPER < side {
         return Err(Refusal::BadNumber);
     }
-    if image::entries_count(image) <= b {
+    if image::count::<Entries>(image) <= b {
         return Err(Refusal::BadNumber);
     }
-    if image::entry_word(image, v, image::format::KIND_WORD) != image::format::VARIABLE {
+    if image::word::<Entries>(image, v, image::format::KIND_WORD) != image::format::VARIABLE {
         return Err(Refusal::NotAVariable);
     }
     storage::put_bound(image, v, side, b)
@@ -200,10 +201,10 @@ pub fn level_in(image: &mut [u32], v: u32, level: u32) -> Result<(), Refusal>
     if image::is_asked(image) {
         return Err(Refusal::Busy);
     }
-    if image::entries_count(image) <= v {
+    if image::count::<Entries>(image) <= v {
         return Err(Refusal::BadNumber);
     }
-    if image::entry_word(image, v, image::format::KIND_WORD) != image::format::VARIABLE {
+    if image::word::<Entries>(image, v, image::format::KIND_WORD) != image::format::VARIABLE {
         return Err(Refusal::NotAVariable);
     }
     storage::set_var_level(image, v, level);

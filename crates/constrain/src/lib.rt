@@ -17,6 +17,7 @@ ghost use Rattle.constrain.specs.Fields.{ask_of, ask_dynamic, both_dynamic, gath
 ghost use Rattle.constrain.specs.Next.{Comes, ComesUnder, ComesOf, words_at, lambda_of};
 
 use decision::Arm;
+use image::{Entries, Fields};
 use model::{Attrset, Entry};
 
 // The consequences of a pair, the first to be worked first.
@@ -68,7 +69,7 @@ fn is_var(image: &[u32], n: u32) -> bool
     requires n_in_bounds { n < length (entries_of image.now) }
     ensures { result ≡ is_at (entries_of image.now) variable n }
 {
-    image::entry_word(image, n, image::format::KIND_WORD) == image::format::VARIABLE
+    image::word::<Entries>(image, n, image::format::KIND_WORD) == image::format::VARIABLE
 }
 
 // The words of entry n.
@@ -77,9 +78,9 @@ fn words_of(image: &[u32], n: u32) -> Words
     requires n_in_bounds { n < length (entries_of image.now) }
     ensures { result ≡ words_at (entry_at (entries_of image.now) n) }
 {
-    let kind = image::entry_word(image, n, image::format::KIND_WORD);
-    let x = image::entry_word(image, n, image::format::X_WORD);
-    let y = image::entry_word(image, n, image::format::Y_WORD);
+    let kind = image::word::<Entries>(image, n, image::format::KIND_WORD);
+    let x = image::word::<Entries>(image, n, image::format::X_WORD);
+    let y = image::word::<Entries>(image, n, image::format::Y_WORD);
     Words { kind, x, y }
 }
 
@@ -95,7 +96,7 @@ fn asks_dynamic(image: &[u32], a: Attrset, j: u32) -> FieldAsk
     if a.is_open {
         return FieldAsk::Nothing;
     }
-    if image::field_word(image, j, image::format::OPTIONAL_WORD) == 0 {
+    if image::word::<Fields>(image, j, image::format::OPTIONAL_WORD) == 0 {
         return FieldAsk::Missing;
     }
     FieldAsk::Nothing
@@ -108,10 +109,10 @@ pub fn asks(image: &[u32], a: Attrset, j: u32) -> FieldAsk
     requires j_in_bounds { j < length (fields_in image.now) }
     ensures { result ≡ ask_of a (fields_held (fields_in image.now) a) (field_at (fields_in image.now) j) }
 {
-    let name = image::field_word(image, j, image::format::NAME_WORD);
+    let name = image::word::<Fields>(image, j, image::format::NAME_WORD);
     let found = disjoint::field_named(image, a.first, a.count, name);
     match found {
-        Some(i) => FieldAsk::Under(image::field_word(image, i, image::format::ENTRY_WORD)),
+        Some(i) => FieldAsk::Under(image::word::<Fields>(image, i, image::format::ENTRY_WORD)),
         None => asks_dynamic(image, a, j),
     }
 }
@@ -143,7 +144,7 @@ fn gather(image: &[u32], a: Attrset, b: Attrset) -> Next
             }
             FieldAsk::Nothing => {}
             FieldAsk::Missing => {
-                return Next::Missing(image::field_word(image, j, image::format::NAME_WORD));
+                return Next::Missing(image::word::<Fields>(image, j, image::format::NAME_WORD));
             }
         }
     }
@@ -246,8 +247,8 @@ fn discriminant_matches(image: &[u32], a: u32, b: u32) -> bool
     requires b_in_bounds { b < length (entries_of image.now) }
     ensures { result ≡ is_at (entries_of image.now) (entry_at (entries_of image.now) a).kind b }
 {
-    image::entry_word(image, b, image::format::KIND_WORD)
-        == image::entry_word(image, a, image::format::KIND_WORD)
+    image::word::<Entries>(image, b, image::format::KIND_WORD)
+        == image::word::<Entries>(image, a, image::format::KIND_WORD)
 }
 
 // A union of which neither side is disjoint from sub: the one of the same kind if only one is, else both.
@@ -322,7 +323,7 @@ fn constrain_functor(image: &[u32], sub: u32, param: u32, body: u32) -> Next
     let found = disjoint::functor_of(image, sub);
     match found {
         Some(i) => Next::Functor {
-            field: image::field_word(image, i, image::format::ENTRY_WORD),
+            field: image::word::<Fields>(image, i, image::format::ENTRY_WORD),
             param,
             body,
         },

@@ -14,6 +14,7 @@ ghost use Rattle.image.specs.Records.{field_at};
 ghost use Rattle.disjoint.specs.Fields.{Inside, fields_held, number_named, functor_number, functor_record};
 ghost use Rattle.disjoint.specs.Shapes.{shape_of, ShapeInside, lacks_some, closed_lacks_in, attrsets_disjoint_in, callable, shapes_disjoint};
 
+use image::{Entries, Fields};
 use model::{Attrset, Entry};
 
 // A type's top-level constructor, as far as disjointness asks.
@@ -35,7 +36,7 @@ pub fn field_named(image: &[u32], first: u32, count: u32, name: u32) -> Option<u
 {
     let end = first + count;
     for i in first..end {
-        if image::field_word(image, i, image::format::NAME_WORD) == name {
+        if image::word::<Fields>(image, i, image::format::NAME_WORD) == name {
             return Some(i);
         }
     }
@@ -96,10 +97,10 @@ fn lacks_field(image: &[u32], a: Attrset, j: u32) -> bool
     requires j_in_bounds { j < length (fields_in image.now) }
     ensures { result ≡ lacks_field (fields_held (fields_in image.now) a) (field_at (fields_in image.now) j) }
 {
-    if image::field_word(image, j, image::format::OPTIONAL_WORD) != 0 {
+    if image::word::<Fields>(image, j, image::format::OPTIONAL_WORD) != 0 {
         return false;
     }
-    let name = image::field_word(image, j, image::format::NAME_WORD);
+    let name = image::word::<Fields>(image, j, image::format::NAME_WORD);
     !field_named(image, a.first, a.count, name).is_some()
 }
 
@@ -251,8 +252,8 @@ pub fn is_concrete_compatible(image: &[u32], sub: u32, target: u32) -> bool
     requires target_in_bounds { target < length (entries_of image.now) }
     ensures { result ≡ couldBeUnder (graph_in image.now) (entry_at (entries_of image.now) sub) (entry_at (entries_of image.now) target) }
 {
-    let kind = image::entry_word(image, target, image::format::KIND_WORD);
-    if image::entry_word(image, sub, image::format::KIND_WORD) == kind {
+    let kind = image::word::<Entries>(image, target, image::format::KIND_WORD);
+    if image::word::<Entries>(image, sub, image::format::KIND_WORD) == kind {
         return true;
     }
     if kind == image::format::NAMED {

@@ -10,6 +10,7 @@ ghost use Rattle.image.specs.Shown.{store_of, entries_of, fields_in};
 ghost use Rattle.formed.specs.Grouped.{entry_told, own_right, entry_right_in};
 
 use crate::wide;
+use image::{Entries, Fields};
 
 // All flags of an attrset.
 const ATTRSET_FLAGS: u32 = image::format::MARK_FLAG
@@ -35,13 +36,13 @@ fn entry_words(image: &[u32], i: u32) -> EntryWords
     ensures { entry_told result ≡ entry_at (entries_of image.now) i }
 {
     EntryWords {
-        kind: image::entry_word(image, i, image::format::KIND_WORD),
-        x: image::entry_word(image, i, image::format::X_WORD),
-        y: image::entry_word(image, i, image::format::Y_WORD),
-        z: image::entry_word(image, i, image::format::Z_WORD),
-        flags: image::entry_word(image, i, image::format::FLAGS_WORD),
-        spread: image::entry_word(image, i, image::format::SPREAD_WORD),
-        negation: image::entry_word(image, i, image::format::NEGATION_WORD),
+        kind: image::word::<Entries>(image, i, image::format::KIND_WORD),
+        x: image::word::<Entries>(image, i, image::format::X_WORD),
+        y: image::word::<Entries>(image, i, image::format::Y_WORD),
+        z: image::word::<Entries>(image, i, image::format::Z_WORD),
+        flags: image::word::<Entries>(image, i, image::format::FLAGS_WORD),
+        spread: image::word::<Entries>(image, i, image::format::SPREAD_WORD),
+        negation: image::word::<Entries>(image, i, image::format::NEGATION_WORD),
     }
 }
 
@@ -122,7 +123,7 @@ fn spread_at(image: &[u32], n: u32) -> usize
     ensures { (result ≡ spread_at (entries_of image.now) n) × (result < word_end) }
 {
     if n < image[image::format::ENTRIES_COUNT_AT] {
-        wide(image::entry_word(image, n, image::format::SPREAD_WORD))
+        wide(image::word::<Entries>(image, n, image::format::SPREAD_WORD))
     } else {
         0
     }
@@ -170,8 +171,8 @@ fn own_right(image: &[u32], i: u32, first: u32, fields: u32) -> bool
     let mut ok = true;
     let mut least = 0;
     for k in 0..fields {
-        let name = image::field_word(image, first + k, image::format::NAME_WORD);
-        let entry = image::field_word(image, first + k, image::format::ENTRY_WORD);
+        let name = image::word::<Fields>(image, first + k, image::format::NAME_WORD);
+        let entry = image::word::<Fields>(image, first + k, image::format::ENTRY_WORD);
         ok = ok & ((least <= wide(name)) & (name < names) & (entry < i));
         least = wide(name) + 1;
     }

@@ -20,6 +20,7 @@ ghost use Rattle.image.specs.Shown.{store_of, entries_of, fields_in, bounds_all}
 ghost use Rattle.image.specs.Records.{field_at, bound_at};
 ghost use Rattle.formed.specs.Grouped.{header_right, RegionInside, pair_of};
 
+use image::{Bounds, Entries, Fields};
 use model::Refusal;
 
 // A word as a length.
@@ -173,9 +174,9 @@ fn field_right(image: &[u32], i: u32) -> bool
     requires i_in_bounds { i < length (fields_in image.now) }
     ensures { result ≡ field_right (entries_of image.now) (field_at (fields_in image.now) i) }
 {
-    (image::field_word(image, i, image::format::ENTRY_WORD)
+    (image::word::<Fields>(image, i, image::format::ENTRY_WORD)
         < image[image::format::ENTRIES_COUNT_AT])
-        & (image::field_word(image, i, image::format::OPTIONAL_WORD) <= image::format::OPTIONAL)
+        & (image::word::<Fields>(image, i, image::format::OPTIONAL_WORD) <= image::format::OPTIONAL)
 }
 
 // Whether every field record is right.
@@ -197,7 +198,7 @@ fn is_variable(image: &[u32], v: u32) -> bool
     ensures { result ≡ (is_entry (entries_of image.now) v && is_at (entries_of image.now) variable v) }
 {
     if v < image[image::format::ENTRIES_COUNT_AT] {
-        image::entry_word(image, v, image::format::KIND_WORD) == image::format::VARIABLE
+        image::word::<Entries>(image, v, image::format::KIND_WORD) == image::format::VARIABLE
     } else {
         false
     }
@@ -211,14 +212,14 @@ fn bound_right(image: &[u32], i: u32) -> bool
 {
     if !is_variable(
         image,
-        image::bound_word(image, i, image::format::VARIABLE_WORD),
+        image::word::<Bounds>(image, i, image::format::VARIABLE_WORD),
     ) {
         return false;
     }
-    if image::format::UPPER < image::bound_word(image, i, image::format::SIDE_WORD) {
+    if image::format::UPPER < image::word::<Bounds>(image, i, image::format::SIDE_WORD) {
         return false;
     }
-    image::bound_word(image, i, image::format::BOUND_WORD) < image[image::format::ENTRIES_COUNT_AT]
+    image::word::<Bounds>(image, i, image::format::BOUND_WORD) < image[image::format::ENTRIES_COUNT_AT]
 }
 
 // Whether every bound record is right.

@@ -13,6 +13,7 @@ ghost use Rattle.model.specs.Told.{told_reply, told_answer, told_opening, steps_
 ghost use Rattle.image.specs.Shown.{Shows, Shown, ShowsAs, ShownAs, store_of, pending_in, pending_to};
 ghost use Rattle.questions.specs.Asking.{Roomy, Fitness, worked};
 
+use image::{Entries, Equals, Pending};
 use model::{Answer, Instalment, Question, Refusal};
 use step::Step;
 
@@ -35,13 +36,13 @@ fn room_for(image: &[u32], q: Question) -> Result<(), Refusal>
     requires { T (well_formed image.now) }
     ensures { Roomy image.now q result }
 {
-    if image::pending_capacity(image) < pairs_of(q) {
+    if image::capacity::<Pending>(image) < pairs_of(q) {
         return Err(Refusal::NoRoom(image::format::PENDING));
     }
     if !is_recorded(q) {
         return Ok(());
     }
-    if image::equals_capacity(image) <= image::equals_count(image) {
+    if image::capacity::<Equals>(image) <= image::count::<Equals>(image) {
         return Err(Refusal::NoRoom(image::format::EQUALS));
     }
     Ok(())
@@ -67,10 +68,10 @@ fn fitness(image: &[u32], q: Question) -> Result<(), Refusal>
             name,
         });
     }
-    if image::entries_count(image) <= q.left {
+    if image::count::<Entries>(image) <= q.left {
         return Err(Refusal::BadNumber);
     }
-    if image::entries_count(image) <= q.right {
+    if image::count::<Entries>(image) <= q.right {
         return Err(Refusal::BadNumber);
     }
     room_for(image, q)
@@ -123,7 +124,7 @@ fn instalment(image: &mut [u32], budget: u32) -> Instalment
     ensures image_after { image.new ≡ (worked image.old budget).words }
 {
     let mut steps: u32 = 0;
-    while 0 < image::pending_count(image) {
+    while 0 < image::count::<Pending>(image) {
         if steps == budget {
             return Instalment {
                 answer: Ok(Answer::More),

@@ -9,6 +9,7 @@ ghost use Rattle.model.specs.Formed.{well_formed};
 ghost use Rattle.model.specs.Calls.{response_of, read_entry_turn, read_record_turn, read_disjoint_turn};
 ghost use Rattle.model.specs.Told.{told_entry_read, told_record, told_disjointness};
 
+use image::{Bounds, Entries, Equals, Fields, Pending, Visited};
 use model::{Entry, Record, Refusal};
 
 // Reads an entry out.
@@ -16,7 +17,7 @@ pub fn entry_in(image: &[u32], n: u32) -> Result<Entry, Refusal>
     requires { T (well_formed image.now) }
     ensures { told_entry_read result ≡ (response_of image.now (read_entry_turn n (table image.now))).says }
 {
-    if image::entries_count(image) <= n {
+    if image::count::<Entries>(image) <= n {
         return Err(Refusal::BadNumber);
     }
     Ok(image::entry(image, n))
@@ -43,16 +44,16 @@ fn entry_record(image: &[u32], n: u32) -> Result<Record, Refusal>
     requires { T (well_formed image.now) }
     ensures { told_record result ≡ (response_of image.now (read_record_turn 1 n image.now)).says }
 {
-    if image::entries_count(image) <= n {
+    if image::count::<Entries>(image) <= n {
         return Err(Refusal::BadNumber);
     }
-    let kind = image::entry_word(image, n, image::format::KIND_WORD);
-    let x = image::entry_word(image, n, image::format::X_WORD);
-    let y = image::entry_word(image, n, image::format::Y_WORD);
-    let z = image::entry_word(image, n, image::format::Z_WORD);
-    let flags = image::entry_word(image, n, image::format::FLAGS_WORD);
-    let spread = image::entry_word(image, n, image::format::SPREAD_WORD);
-    let negation = image::entry_word(image, n, image::format::NEGATION_WORD);
+    let kind = image::word::<Entries>(image, n, image::format::KIND_WORD);
+    let x = image::word::<Entries>(image, n, image::format::X_WORD);
+    let y = image::word::<Entries>(image, n, image::format::Y_WORD);
+    let z = image::word::<Entries>(image, n, image::format::Z_WORD);
+    let flags = image::word::<Entries>(image, n, image::format::FLAGS_WORD);
+    let spread = image::word::<Entries>(image, n, image::format::SPREAD_WORD);
+    let negation = image::word::<Entries>(image, n, image::format::NEGATION_WORD);
     Ok(Record::Entry {
         kind,
         x,
@@ -69,12 +70,12 @@ fn field_record(image: &[u32], n: u32) -> Result<Record, Refusal>
     requires { T (well_formed image.now) }
     ensures { told_record result ≡ (response_of image.now (read_record_turn 2 n image.now)).says }
 {
-    if image::fields_count(image) <= n {
+    if image::count::<Fields>(image) <= n {
         return Err(Refusal::BadNumber);
     }
-    let name = image::field_word(image, n, image::format::NAME_WORD);
-    let entry = image::field_word(image, n, image::format::ENTRY_WORD);
-    let optional = image::field_word(image, n, image::format::OPTIONAL_WORD);
+    let name = image::word::<Fields>(image, n, image::format::NAME_WORD);
+    let entry = image::word::<Fields>(image, n, image::format::ENTRY_WORD);
+    let optional = image::word::<Fields>(image, n, image::format::OPTIONAL_WORD);
     Ok(Record::Field {
         name,
         entry,
@@ -87,12 +88,12 @@ fn bound_record(image: &[u32], n: u32) -> Result<Record, Refusal>
     requires { T (well_formed image.now) }
     ensures { told_record result ≡ (response_of image.now (read_record_turn 3 n image.now)).says }
 {
-    if image::bounds_count(image) <= n {
+    if image::count::<Bounds>(image) <= n {
         return Err(Refusal::BadNumber);
     }
-    let variable = image::bound_word(image, n, image::format::VARIABLE_WORD);
-    let side = image::bound_word(image, n, image::format::SIDE_WORD);
-    let bound = image::bound_word(image, n, image::format::BOUND_WORD);
+    let variable = image::word::<Bounds>(image, n, image::format::VARIABLE_WORD);
+    let side = image::word::<Bounds>(image, n, image::format::SIDE_WORD);
+    let bound = image::word::<Bounds>(image, n, image::format::BOUND_WORD);
     Ok(Record::Bound {
         variable,
         side,
@@ -105,11 +106,11 @@ fn visited_record(image: &[u32], n: u32) -> Result<Record, Refusal>
     requires { T (well_formed image.now) }
     ensures { told_record result ≡ (response_of image.now (read_record_turn 4 n image.now)).says }
 {
-    if image::visited_count(image) <= n {
+    if image::count::<Visited>(image) <= n {
         return Err(Refusal::BadNumber);
     }
-    let sub = image::visited_word(image, n, image::format::VISITED_SUB_WORD);
-    let sup = image::visited_word(image, n, image::format::VISITED_SUP_WORD);
+    let sub = image::word::<Visited>(image, n, image::format::VISITED_SUB_WORD);
+    let sup = image::word::<Visited>(image, n, image::format::VISITED_SUP_WORD);
     Ok(Record::Visited { sub, sup })
 }
 
@@ -118,11 +119,11 @@ fn pending_record(image: &[u32], n: u32) -> Result<Record, Refusal>
     requires { T (well_formed image.now) }
     ensures { told_record result ≡ (response_of image.now (read_record_turn 5 n image.now)).says }
 {
-    if image::pending_count(image) <= n {
+    if image::count::<Pending>(image) <= n {
         return Err(Refusal::BadNumber);
     }
-    let sub = image::pending_word(image, n, image::format::PENDING_SUB_WORD);
-    let sup = image::pending_word(image, n, image::format::PENDING_SUP_WORD);
+    let sub = image::word::<Pending>(image, n, image::format::PENDING_SUB_WORD);
+    let sup = image::word::<Pending>(image, n, image::format::PENDING_SUP_WORD);
     Ok(Record::Pending { sub, sup })
 }
 
@@ -131,11 +132,11 @@ fn equal_record(image: &[u32], n: u32) -> Result<Record, Refusal>
     requires { T (well_formed image.now) }
     ensures { told_record result ≡ (response_of image.now (read_record_turn 6 n image.now)).says }
 {
-    if image::equals_count(image) <= n {
+    if image::count::<Equals>(image) <= n {
         return Err(Refusal::BadNumber);
     }
-    let left = image::equal_word(image, n, image::format::EQUAL_LEFT_WORD);
-    let right = image::equal_word(image, n, image::format::EQUAL_RIGHT_WORD);
+    let left = image::word::<Equals>(image, n, image::format::EQUAL_LEFT_WORD);
+    let right = image::word::<Equals>(image, n, image::format::EQUAL_RIGHT_WORD);
     Ok(Record::Equal { left, right })
 }
 
@@ -144,10 +145,10 @@ pub fn disjoint_in(image: &[u32], a: u32, b: u32) -> Result<bool, Refusal>
     requires { T (well_formed image.now) }
     ensures { told_disjointness result ≡ (response_of image.now (read_disjoint_turn a b (table image.now))).says }
 {
-    if image::entries_count(image) <= a {
+    if image::count::<Entries>(image) <= a {
         return Err(Refusal::BadNumber);
     }
-    if image::entries_count(image) <= b {
+    if image::count::<Entries>(image) <= b {
         return Err(Refusal::BadNumber);
     }
     if disjoint::are_types_disjoint(image, a, b) {

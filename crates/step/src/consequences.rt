@@ -11,6 +11,7 @@ ghost use Rattle.step.specs.Taken.{Midway};
 ghost use Rattle.step.specs.Put.{field_pair, count_in};
 
 use constrain::{FieldAsk, Pairs};
+use image::{Bounds, Fields};
 use model::Attrset;
 
 // Puts what field record j asks of a on pending, if it asks for a pair.
@@ -23,7 +24,7 @@ fn put_field_pair(image: &mut [u32], a: Attrset, j: u32)
 {
     let ask = constrain::asks(image, a, j);
     if let FieldAsk::Under(x) = ask {
-        let entry = image::field_word(image, j, image::format::ENTRY_WORD);
+        let entry = image::word::<Fields>(image, j, image::format::ENTRY_WORD);
         writes::put_consequence(image, x, entry);
     }
 }
@@ -103,10 +104,10 @@ pub fn put_bound_pairs(image: &mut [u32], v: u32, side: u32, b: u32)
     requires side_len_bound { length (pending_in image.old) + length (bounds_in (bounds_all image.old) v side) ≤ (store_of image.old).capacities.pending }
     ensures { Midway image.new (pending_to image.old (pending_in image.old ++ reverse (map (bound_pair side b) (bounds_in (bounds_all image.old) v side)))) }
 {
-    let n = image::bounds_count(image);
+    let n = image::count::<Bounds>(image);
     for i in (0..n).rev() {
         if storage::belongs(image, i, v, side) {
-            let x = image::bound_word(image, i, image::format::BOUND_WORD);
+            let x = image::word::<Bounds>(image, i, image::format::BOUND_WORD);
             put_bound_pair(image, side, x, b);
         }
     }

@@ -23,6 +23,7 @@ ghost use Rattle.step.specs.Taken.{before_last, last_pair, Midway, taken, outcom
 ghost use Rattle.step.specs.Made.{TargetIn, settled};
 
 use constrain::{Next, Pairs};
+use image::{Bounds, Entries, Pending, Visited};
 use model::{Failure, Refusal};
 
 // What a step comes to that is not refused.
@@ -59,11 +60,11 @@ fn room_for(image: &[u32], more: u32) -> Result<(), Refusal>
     requires nonzero { 0 < length (pending_in image.now) }
     ensures { RoomFor image.now (store_of image.now) more result }
 {
-    if image::visited_capacity(image) <= image::visited_count(image) {
+    if image::capacity::<Visited>(image) <= image::count::<Visited>(image) {
         return Err(Refusal::NoRoom(image::format::VISITED));
     }
-    let others = image::pending_count(image) - 1;
-    if image::pending_capacity(image) - others < more {
+    let others = image::count::<Pending>(image) - 1;
+    if image::capacity::<Pending>(image) - others < more {
         return Err(Refusal::NoRoom(image::format::PENDING));
     }
     Ok(())
@@ -132,13 +133,13 @@ fn make_target(image: &mut [u32], sup: u32, d: u32) -> Option<u32>
     if disjoint::union_contains_member(image, sup, n) {
         return Some(sup);
     }
-    let number = image::entries_count(image);
-    if image::entries_capacity(image) <= number {
+    let number = image::count::<Entries>(image);
+    if image::capacity::<Entries>(image) <= number {
         return None;
     }
     let spread = 1
-        + image::entry_word(image, sup, image::format::SPREAD_WORD)
-        + image::entry_word(image, n, image::format::SPREAD_WORD);
+        + image::word::<Entries>(image, sup, image::format::SPREAD_WORD)
+        + image::word::<Entries>(image, n, image::format::SPREAD_WORD);
     writes::push_entry(image, image::format::UNION, sup, n, 0, 0, spread);
     Some(number)
 }
@@ -150,8 +151,8 @@ fn is_deep(image: &[u32], old: u32) -> bool
     requires shallow { Shallow (take old (entries_of image.now)) }
     ensures { result ≡ too_deep (entries_of image.now) }
 {
-    for i in old..image::entries_count(image) {
-        if image::format::SPREAD_MOST < image::entry_word(image, i, image::format::SPREAD_WORD) {
+    for i in old..image::count::<Entries>(image) {
+        if image::format::SPREAD_MOST < image::word::<Entries>(image, i, image::format::SPREAD_WORD) {
             return true;
         }
     }
@@ -174,7 +175,7 @@ fn settle(
     ensures value { result ≡ (settled image.old old (sub ⊑ sup) (c ⊑ target)).says }
     ensures image_after { image.new ≡ (settled image.old old (sub ⊑ sup) (c ⊑ target)).words }
 {
-    if image::visited_capacity(image) <= image::visited_count(image) {
+    if image::capacity::<Visited>(image) <= image::count::<Visited>(image) {
         type_table::undo(image, old);
         return Err(Refusal::NoRoom(image::format::VISITED));
     }
@@ -197,7 +198,7 @@ fn follow_isolated(image: &mut [u32], sub: u32, sup: u32, c: u32, d: u32) -> Res
     ensures value { result ≡ (taken image.old (outcome_for (store_of image.old) (sub ⊑ sup) (Isolate c d))).says }
     ensures image_after { image.new ≡ (taken image.old (outcome_for (store_of image.old) (sub ⊑ sup) (Isolate c d))).words }
 {
-    let old = image::entries_count(image);
+    let old = image::count::<Entries>(image);
     let Some(target) = make_target(image, sup, d) else {
         type_table::undo(image, old);
         return Err(Refusal::NoRoom(image::format::ENTRIES)); // however deep it would go
@@ -219,9 +220,9 @@ fn follow_functor(
     ensures value { result ≡ (taken image.old (outcome_for (store_of image.old) (sub ⊑ sup) (Functor f param body))).says }
     ensures image_after { image.new ≡ (taken image.old (outcome_for (store_of image.old) (sub ⊑ sup) (Functor f param body))).words }
 {
-    let old = image::entries_count(image);
+    let old = image::count::<Entries>(image);
     let needed = 2;
-    if image::entries_capacity(image) - old < needed {
+    if image::capacity::<Entries>(image) - old < needed {
         return Err(Refusal::NoRoom(image::format::ENTRIES));
     }
     writes::push_entry(image, image::format::LAMBDA, param, body, 0, 0, 1);
@@ -238,7 +239,7 @@ fn room_for_bound(image: &[u32], repeated: bool, more: u32) -> Result<(), Refusa
     if repeated {
         return room_for(image, more);
     }
-    if image::bounds_capacity(image) <= image::bounds_count(image) {
+    if image::capacity::<Bounds>(image) <= image::count::<Bounds>(image) {
         return Err(Refusal::NoRoom(image::format::BOUNDS));
     }
     room_for(image, more)
@@ -266,10 +267,10 @@ fn pass_mark(image: &mut [u32], v: u32, side: u32, b: u32)
     if side != image::format::UPPER {
         return;
     }
-    if image::entry_word(image, b, image::format::KIND_WORD) != image::format::VARIABLE {
+    if image::word::<Entries>(image, b, image::format::KIND_WORD) != image::format::VARIABLE {
         return;
     }
-    if image::says_mark(image::entry_word(image, v, image::format::FLAGS_WORD)) {
+    if image::says_mark(image::word::<Entries>(image, v, image::format::FLAGS_WORD)) {
         writes::put_mark(image, b);
     }
 }
@@ -292,7 +293,7 @@ fn join_bounds(
     ensures image_after { image.new ≡ (taken image.old (outcome_of (visit (sub ⊑ sup) (store_of image.old)) (sub ⊑ sup) (join_bounds (graph_in image.old) v side b))).words }
 {
     let other = image::format::UPPER - side;
-    let n = image::bounds_count(image);
+    let n = image::count::<Bounds>(image);
     let repeated = storage::repeats_bound(image, n, v, side, b);
     let more = storage::count_bounds(image, n, v, other);
     room_for_bound(image, repeated, more)?;
@@ -332,9 +333,9 @@ pub fn take_step(image: &mut [u32]) -> Result<Step, Refusal>
     ensures value { result ≡ (taken image.old (rule (store_of image.old) (last_pair image.old))).says }
     ensures image_after { image.new ≡ (taken image.old (rule (store_of image.old) (last_pair image.old))).words }
 {
-    let last = image::pending_count(image) - 1;
-    let sub = image::pending_word(image, last, image::format::PENDING_SUB_WORD);
-    let sup = image::pending_word(image, last, image::format::PENDING_SUP_WORD);
+    let last = image::count::<Pending>(image) - 1;
+    let sub = image::word::<Pending>(image, last, image::format::PENDING_SUB_WORD);
+    let sup = image::word::<Pending>(image, last, image::format::PENDING_SUP_WORD);
     if sub == sup {
         skip(image);
         return Ok(Step::Went);

@@ -15,6 +15,7 @@ ghost use Rattle.image.specs.Records.{bound_at};
 ghost use Rattle.storage.specs.Bounds.{belongs_to, is_bound};
 ghost use Rattle.storage.specs.Replies.{bound_response, enter_response, exit_response};
 
+use image::Bounds;
 use model::Refusal;
 
 // The last level.
@@ -26,8 +27,8 @@ pub fn belongs(image: &[u32], i: u32, v: u32, side: u32) -> bool
     requires i_in_bounds { i < length (bounds_all image.now) }
     ensures { result ≡ belongs_to v side (bound_at (bounds_all image.now) i) }
 {
-    let of = image::bound_word(image, i, image::format::VARIABLE_WORD);
-    let on = image::bound_word(image, i, image::format::SIDE_WORD);
+    let of = image::word::<Bounds>(image, i, image::format::VARIABLE_WORD);
+    let on = image::word::<Bounds>(image, i, image::format::SIDE_WORD);
     (of == v) & (on == side)
 }
 
@@ -58,7 +59,7 @@ fn is_bound(image: &[u32], i: u32, v: u32, side: u32, b: u32) -> bool
     ensures { result ≡ is_bound v side b (bound_at (bounds_all image.now) i) }
 {
     let of = belongs(image, i, v, side);
-    let bound = image::bound_word(image, i, image::format::BOUND_WORD);
+    let bound = image::word::<Bounds>(image, i, image::format::BOUND_WORD);
     of & (b == bound)
 }
 
@@ -95,11 +96,11 @@ pub fn put_bound(image: &mut [u32], v: u32, side: u32, b: u32) -> Result<(), Ref
     ensures result_value { told_reply result ≡ (bound_response image.old v side b).says }
     ensures image_after { image.new ≡ (bound_response image.old v side b).words }
 {
-    let n = image::bounds_count(image);
+    let n = image::count::<Bounds>(image);
     if repeats_bound(image, n, v, side, b) {
         return Ok(());
     }
-    if image::bounds_capacity(image) <= n {
+    if image::capacity::<Bounds>(image) <= n {
         return Err(Refusal::NoRoom(image::format::BOUNDS));
     }
     writes::push_bound(image, v, side, b);

@@ -14,6 +14,7 @@ ghost use Rattle.image.specs.Laid.{Laid};
 ghost use Rattle.image.specs.Shown.{Shows, Shown, store_of, entries_of, fields_in, entries_to, fields_to};
 ghost use Rattle.type_table.specs.Made.{made_response, attrset_response, first_field, Components, Added, Negatable, NegatedIn};
 
+use image::{Entries, Fields};
 use model::Refusal;
 
 // How far an entry of this kind, with these words, spreads.
@@ -25,10 +26,10 @@ fn spread_of(image: &[u32], kind: u32, x: u32, y: u32) -> u32
 {
     match kind {
         0..=4 => 1,
-        5..=6 => 1 + image::entry_word(image, x, image::format::SPREAD_WORD),
+        5..=6 => 1 + image::word::<Entries>(image, x, image::format::SPREAD_WORD),
         _ => 1
-            + image::entry_word(image, x, image::format::SPREAD_WORD)
-            + image::entry_word(image, y, image::format::SPREAD_WORD),
+            + image::word::<Entries>(image, x, image::format::SPREAD_WORD)
+            + image::word::<Entries>(image, y, image::format::SPREAD_WORD),
     }
 }
 
@@ -39,8 +40,8 @@ pub fn make(image: &mut [u32], kind: u32, x: u32, y: u32) -> Result<u32, Refusal
     ensures result_value { told_made result ≡ (made_response image.old (new_entry (entries_of image.old) kind x y)).says }
     ensures image_after { image.new ≡ (made_response image.old (new_entry (entries_of image.old) kind x y)).words }
 {
-    let number = image::entries_count(image);
-    if image::entries_capacity(image) <= number {
+    let number = image::count::<Entries>(image);
+    if image::capacity::<Entries>(image) <= number {
         return Err(Refusal::NoRoom(image::format::ENTRIES));
     }
     let spread = spread_of(image, kind, x, y);
@@ -57,8 +58,8 @@ fn add(image: &mut [u32], kind: u32, x: u32, y: u32, spread: u32, n: u32) -> Opt
     requires n_in_bounds { n < length (entries_of image.old) }
     ensures { Added (table image.old) kind x y spread n result image.new }
 {
-    let number = image::entries_count(image);
-    if image::entries_capacity(image) <= number {
+    let number = image::count::<Entries>(image);
+    if image::capacity::<Entries>(image) <= number {
         return None;
     }
     writes::push_entry(image, kind, x, y, 0, 0, spread);
@@ -72,7 +73,7 @@ fn pop_to(image: &mut [u32], old: u32)
     requires in_bounds { old ≤ length (entries_of image.old) }
     ensures { Shows image.new (entries_to image.old (take old (entries_of image.old))) }
 {
-    while old < image::entries_count(image) {
+    while old < image::count::<Entries>(image) {
         writes::pop_entry(image);
     }
 }
@@ -85,7 +86,7 @@ pub fn undo(image: &mut [u32], old: u32)
 {
     pop_to(image, old);
     for i in 0..old {
-        if old < image::entry_word(image, i, image::format::NEGATION_WORD) {
+        if old < image::word::<Entries>(image, i, image::format::NEGATION_WORD) {
             writes::put_negation(image, i, 0);
         }
     }
@@ -96,25 +97,25 @@ pub fn negate(image: &mut [u32], n: u32) -> Option<u32>
     requires { Negatable image.old n }
     ensures { NegatedIn (table image.old) n result image.new }
 {
-    let cached = image::entry_word(image, n, image::format::NEGATION_WORD);
+    let cached = image::word::<Entries>(image, n, image::format::NEGATION_WORD);
     if 0 < cached {
         return Some(cached - 1);
     }
-    let kind = image::entry_word(image, n, image::format::KIND_WORD);
+    let kind = image::word::<Entries>(image, n, image::format::KIND_WORD);
     if kind < image::format::NEG {
-        let spread = 1 + image::entry_word(image, n, image::format::SPREAD_WORD);
+        let spread = 1 + image::word::<Entries>(image, n, image::format::SPREAD_WORD);
         return add(image, image::format::NEG, n, 0, spread, n);
     }
-    let x = image::entry_word(image, n, image::format::X_WORD);
+    let x = image::word::<Entries>(image, n, image::format::X_WORD);
     if kind < image::format::INTER {
         return Some(x);
     }
-    let y = image::entry_word(image, n, image::format::Y_WORD);
+    let y = image::word::<Entries>(image, n, image::format::Y_WORD);
     let p = negate(image, x)?;
     let q = negate(image, y)?;
     let spread = 1
-        + image::entry_word(image, p, image::format::SPREAD_WORD)
-        + image::entry_word(image, q, image::format::SPREAD_WORD);
+        + image::word::<Entries>(image, p, image::format::SPREAD_WORD)
+        + image::word::<Entries>(image, q, image::format::SPREAD_WORD);
     // the inter of negations for a union, and the other way round
     add(
         image,
@@ -133,12 +134,12 @@ pub fn make_neg(image: &mut [u32], n: u32) -> Result<u32, Refusal>
     ensures result_value { told_made result ≡ (made_response image.old (make_neg (entries_of image.old) n)).says }
     ensures image_after { image.new ≡ (made_response image.old (make_neg (entries_of image.old) n)).words }
 {
-    let old = image::entries_count(image);
+    let old = image::count::<Entries>(image);
     let Some(k) = negate(image, n) else {
         undo(image, old);
         return Err(Refusal::NoRoom(image::format::ENTRIES)); // however deep it would go
     };
-    if image::format::SPREAD_MOST < image::entry_word(image, k, image::format::SPREAD_WORD) {
+    if image::format::SPREAD_MOST < image::word::<Entries>(image, k, image::format::SPREAD_WORD) {
         undo(image, old);
         return Err(Refusal::TooDeep);
     }
@@ -210,12 +211,12 @@ pub fn make_attrset(
     ensures result_value { told_made result ≡ (attrset_response image.old fields.now is_open dynamic).says }
     ensures image_after { image.new ≡ (attrset_response image.old fields.now is_open dynamic).words }
 {
-    let number = image::entries_count(image);
-    if image::entries_capacity(image) <= number {
+    let number = image::count::<Entries>(image);
+    if image::capacity::<Entries>(image) <= number {
         return Err(Refusal::NoRoom(image::format::ENTRIES));
     }
-    let old = image::fields_count(image);
-    let room = image::fields_capacity(image) - old;
+    let old = image::count::<Fields>(image);
+    let room = image::capacity::<Fields>(image) - old;
     let n = fields.len() / image::format::FIELD_WIDTH;
     if wide(room) < n {
         return Err(Refusal::NoRoom(image::format::FIELDS));

@@ -11,7 +11,7 @@ use Rattle.model.specs.Format.{Region, no_region, header_for, header_of, offset_
 use Rattle.model.specs.Parts.{word, offset, capacity, count, Part, no_part, past, triples, bodies, image, regions_right, InRegion, InRegions, done, ◌then◌, stored, pushed, part_of, change}
 use Rattle.laws.proofs.Parts.{triples_length, fit_length, fit_at, image_right, Flat, flat_at, size}
 use Rattle.image.specs.Laid.{At}
-use Rattle.image.proofs.Reach.{before_end}
+use Rattle.image.specs.Reading.{before_end}
 use Rattle.image.specs.Stores.{appended}
 
 -- words that show parts of these regions, in a row

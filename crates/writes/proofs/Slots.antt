@@ -16,7 +16,7 @@ use Rattle.laws.proofs.Round.{front_length, fit_within, parts_fit}
 use Rattle.image.specs.Laid.{At}
 use Rattle.image.specs.Shown.{ShowsAs}
 use Rattle.image.specs.Stores.{appended, removed}
-use Rattle.image.proofs.Reach.{before_end}
+use Rattle.image.specs.Reading.{before_end}
 use Rattle.writes.proofs.Placing.{ShowsParts, count_is, capacity_is, shows_at, shows_put, shows_stored, shows_pushed}
 use Rattle.writes.proofs.Packed.{packed_pushed, packed_popped, packed_put}
 

@@ -16,6 +16,8 @@ ghost use Rattle.image.specs.Shown.{entries_to, fields_to, bounds_to, visited_to
 ghost use Rattle.image.specs.Stores.{appended, removed};
 ghost use Rattle.image.specs.Records.{entry_made};
 
+use image::Entries;
+
 // Writes a record's words into a region that is lent from its offset on.
 pub fn put_row(region: &mut [u32], start: usize, row: &[u32])
     requires { start + length row.now ≤ length region.old }
@@ -105,7 +107,7 @@ pub fn put_mark(image: &mut [u32], i: u32)
     requires i_in_bounds { i < length (entries_of image.old) }
     ensures { Shows image.new (entries_to image.old (changed with_mark (entries_of image.old) i)) }
 {
-    let flags = image::entry_word(image, i, image::format::FLAGS_WORD);
+    let flags = image::word::<Entries>(image, i, image::format::FLAGS_WORD);
     put_entry_word(
         image,
         i,

@@ -19,14 +19,14 @@ returns-then-is_asked c =
     let k = busy c.args.image.now _ (sym c.is_asked.ensures ∙ c.if-is_asked.true) in
     record { result_value = k.says; image_after = k.leaves }
 
-pub entries_count-requires : goal.entries_count-requires
-entries_count-requires c = formed_laid _ c.requires
+pub count-requires : goal.count-requires
+count-requires c = formed_laid _ c.requires
 
-pub returns-then-entries_count-v : goal.returns-then-entries_count-v
+pub returns-then-count-v : goal.returns-then-count-v
 unfolding put_bound_turn
-returns-then-entries_count-v c =
+returns-then-count-v c =
     let w = c.args.image.now in
-    let k = idle w _ (sym c.is_asked.ensures ∙ c.if-is_asked.false) (stopped w BadNumber _ (bound_numbered (entries_of w) c.args.v c.args.side c.args.b) (no_bounded (entries_of w) c.args.v c.args.side c.args.b (omega (arith, c.entries_count.ensures)))) in
+    let k = idle w _ (sym c.is_asked.ensures ∙ c.if-is_asked.false) (stopped w BadNumber _ (bound_numbered (entries_of w) c.args.v c.args.side c.args.b) (no_bounded (entries_of w) c.args.v c.args.side c.args.b (omega (arith, c.count.ensures)))) in
     record { result_value = k.says; image_after = k.leaves }
 
 pub returns-then-side-gt-UPPER : goal.returns-then-side-gt-UPPER
@@ -36,26 +36,26 @@ returns-then-side-gt-UPPER c =
     let k = idle w _ (sym c.is_asked.ensures ∙ c.if-is_asked.false) (stopped w BadNumber _ (bound_numbered (entries_of w) c.args.v c.args.side c.args.b) (no_side (entries_of w) c.args.v c.args.side c.args.b (omega arith))) in
     record { result_value = k.says; image_after = k.leaves }
 
-pub entries_count-requires-2 : goal.entries_count-requires-2
-entries_count-requires-2 c = formed_laid _ c.requires
+pub count-requires-2 : goal.count-requires-2
+count-requires-2 c = formed_laid _ c.requires
 
-pub returns-then-entries_count-b : goal.returns-then-entries_count-b
+pub returns-then-count-b : goal.returns-then-count-b
 unfolding put_bound_turn
-returns-then-entries_count-b c =
+returns-then-count-b c =
     let w = c.args.image.now in
-    let k = idle w _ (sym c.is_asked.ensures ∙ c.if-is_asked.false) (stopped w BadNumber _ (bound_numbered (entries_of w) c.args.v c.args.side c.args.b) (no_bound (entries_of w) c.args.v c.args.side c.args.b (omega (arith, c.entries_count-2.ensures)))) in
+    let k = idle w _ (sym c.is_asked.ensures ∙ c.if-is_asked.false) (stopped w BadNumber _ (bound_numbered (entries_of w) c.args.v c.args.side c.args.b) (no_bound (entries_of w) c.args.v c.args.side c.args.b (omega (arith, c.count-2.ensures)))) in
     record { result_value = k.says; image_after = k.leaves }
 
-pub entry_word-requires-clause-laid : goal.entry_word-requires-clause-laid
-entry_word-requires-clause-laid c = formed_laid _ c.requires
+pub word-requires-clause-laid : goal.word-requires-clause-laid
+word-requires-clause-laid c = formed_laid _ c.requires
 
-pub returns-then-entry_word-ne-VARIABLE : goal.returns-then-entry_word-ne-VARIABLE
+pub returns-then-word-ne-VARIABLE : goal.returns-then-word-ne-VARIABLE
 unfolding put_bound_turn
-returns-then-entry_word-ne-VARIABLE c =
+returns-then-word-ne-VARIABLE c =
     let w = c.args.image.now in
     let k = idle w _ (sym c.is_asked.ensures ∙ c.if-is_asked.false)
-    (gone_on w BadNumber _ (bound_numbered (entries_of w) c.args.v c.args.side c.args.b) (bound_numbered_lem (entries_of w) c.args.v c.args.side c.args.b (omega (arith, c.entries_count.ensures)) (omega arith) (omega (arith, c.entries_count-2.ensures)))
-    (stopped w NotAVariable _ (is_at (entries_of w) variable c.args.v) (kind_other (entries_of w) c.args.v c.args.side c.args.b (λ e. c.if-entry_word-ne-VARIABLE.true (c.entry_word.ensures ∙ e))))) in
+    (gone_on w BadNumber _ (bound_numbered (entries_of w) c.args.v c.args.side c.args.b) (bound_numbered_lem (entries_of w) c.args.v c.args.side c.args.b (omega (arith, c.count.ensures)) (omega arith) (omega (arith, c.count-2.ensures)))
+    (stopped w NotAVariable _ (is_at (entries_of w) variable c.args.v) (kind_other (entries_of w) c.args.v c.args.side c.args.b (λ e. c.if-word-ne-VARIABLE.true (c.word.ensures ∙ e))))) in
     record { result_value = k.says; image_after = k.leaves }
 
 pub returns : goal.returns
@@ -63,7 +63,7 @@ unfolding put_bound_turn
 returns c =
     let w = c.args.image.now in
     let k = idle w _ (sym c.is_asked.ensures ∙ c.if-is_asked.false)
-    (gone_on w BadNumber _ (bound_numbered (entries_of w) c.args.v c.args.side c.args.b) (bound_numbered_lem (entries_of w) c.args.v c.args.side c.args.b (omega (arith, c.entries_count.ensures)) (omega arith) (omega (arith, c.entries_count-2.ensures)))
-    (gone_on w NotAVariable _ (is_at (entries_of w) variable c.args.v) (kind_variable (entries_of w) c.args.v c.args.side c.args.b (sym c.entry_word.ensures ∙ c.if-entry_word-ne-VARIABLE.false))
+    (gone_on w BadNumber _ (bound_numbered (entries_of w) c.args.v c.args.side c.args.b) (bound_numbered_lem (entries_of w) c.args.v c.args.side c.args.b (omega (arith, c.count.ensures)) (omega arith) (omega (arith, c.count-2.ensures)))
+    (gone_on w NotAVariable _ (is_at (entries_of w) variable c.args.v) (kind_variable (entries_of w) c.args.v c.args.side c.args.b (sym c.word.ensures ∙ c.if-word-ne-VARIABLE.false))
     (record { says = c.put_bound.ensures.result_value; leaves = c.put_bound.ensures.image_after }))) in
     record { result_value = k.says; image_after = k.leaves }

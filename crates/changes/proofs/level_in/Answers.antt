@@ -20,26 +20,26 @@ returns-then-is_asked c =
     let k = busy c.args.image.now _ (sym c.is_asked.ensures ∙ c.if-is_asked.true) in
     record { result_value = k.says; image_after = k.leaves }
 
-pub entries_count-requires : goal.entries_count-requires
-entries_count-requires c = formed_laid _ c.requires
+pub count-requires : goal.count-requires
+count-requires c = formed_laid _ c.requires
 
-pub returns-then-entries_count-v : goal.returns-then-entries_count-v
+pub returns-then-count-v : goal.returns-then-count-v
 unfolding set_level_turn
-returns-then-entries_count-v c =
+returns-then-count-v c =
     let w = c.args.image.now in
-    let k = idle w _ (sym c.is_asked.ensures ∙ c.if-is_asked.false) (stopped w BadNumber _ (is_entry (entries_of w) c.args.v) (no_entry (entries_of w) c.args.v (omega (arith, c.entries_count.ensures)))) in
+    let k = idle w _ (sym c.is_asked.ensures ∙ c.if-is_asked.false) (stopped w BadNumber _ (is_entry (entries_of w) c.args.v) (no_entry (entries_of w) c.args.v (omega (arith, c.count.ensures)))) in
     record { result_value = k.says; image_after = k.leaves }
 
-pub entry_word-requires-clause-laid : goal.entry_word-requires-clause-laid
-entry_word-requires-clause-laid c = formed_laid _ c.requires
+pub word-requires-clause-laid : goal.word-requires-clause-laid
+word-requires-clause-laid c = formed_laid _ c.requires
 
-pub returns-then-entry_word-ne-VARIABLE : goal.returns-then-entry_word-ne-VARIABLE
+pub returns-then-word-ne-VARIABLE : goal.returns-then-word-ne-VARIABLE
 unfolding set_level_turn
-returns-then-entry_word-ne-VARIABLE c =
+returns-then-word-ne-VARIABLE c =
     let w = c.args.image.now in
     let k = idle w _ (sym c.is_asked.ensures ∙ c.if-is_asked.false)
-    (gone_on w BadNumber _ (is_entry (entries_of w) c.args.v) (an_entry (entries_of w) c.args.v (omega (arith, c.entries_count.ensures)))
-    (stopped w NotAVariable _ (is_at (entries_of w) variable c.args.v) (kind_other (entries_of w) c.args.v 0 0 (λ e. c.if-entry_word-ne-VARIABLE.true (c.entry_word.ensures ∙ e))))) in
+    (gone_on w BadNumber _ (is_entry (entries_of w) c.args.v) (an_entry (entries_of w) c.args.v (omega (arith, c.count.ensures)))
+    (stopped w NotAVariable _ (is_at (entries_of w) variable c.args.v) (kind_other (entries_of w) c.args.v 0 0 (λ e. c.if-word-ne-VARIABLE.true (c.word.ensures ∙ e))))) in
     record { result_value = k.says; image_after = k.leaves }
 
 pub set_var_level-requires-clause-shown : goal.set_var_level-requires-clause-shown
@@ -50,7 +50,7 @@ unfolding set_level_turn
 returns c =
     let w = c.args.image.now in
     let k = idle w _ (sym c.is_asked.ensures ∙ c.if-is_asked.false)
-    (gone_on w BadNumber _ (is_entry (entries_of w) c.args.v) (an_entry (entries_of w) c.args.v (omega (arith, c.entries_count.ensures)))
-    (gone_on w NotAVariable _ (is_at (entries_of w) variable c.args.v) (kind_variable (entries_of w) c.args.v 0 0 (sym c.entry_word.ensures ∙ c.if-entry_word-ne-VARIABLE.false))
+    (gone_on w BadNumber _ (is_entry (entries_of w) c.args.v) (an_entry (entries_of w) c.args.v (omega (arith, c.count.ensures)))
+    (gone_on w NotAVariable _ (is_at (entries_of w) variable c.args.v) (kind_variable (entries_of w) c.args.v 0 0 (sym c.word.ensures ∙ c.if-word-ne-VARIABLE.false))
     (left_as w _ _ c.set_var_level.ensures))) in
     record { result_value = k.says; image_after = k.leaves }

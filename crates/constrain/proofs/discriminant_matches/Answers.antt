@@ -4,4 +4,4 @@ use Rattle.constrain.proofs.discriminant_matches.Goals as goal
 
 pub returns : goal.returns
 unfolding is is_at
-returns c = rw (c.entry_word.ensures, c.entry_word-2.ensures)
+returns c = rw (c.word.ensures, c.word-2.ensures)

@@ -22,7 +22,7 @@ returns c = going_end c.loop-j.invariant c.loop-j-test.false (ap (λ (k : ℕ). 
 
 pub returns-in-Missing : goal.returns-in-Missing
 returns-in-Missing c =
-    ap Missing c.field_word.ensures
+    ap Missing c.word.ensures
     ∙ going_missing c.loop-j.invariant c.loop-j-test.true (sym c.asks-ask.ensures ∙ c.in-Missing.is)
 
 pub loop-j-preserved : goal.loop-j-preserved

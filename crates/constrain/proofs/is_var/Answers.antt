@@ -4,4 +4,4 @@ use Rattle.constrain.proofs.is_var.Goals as goal
 
 pub returns : goal.returns
 unfolding is is_at
-returns c = rw c.entry_word.ensures
+returns c = rw c.word.ensures

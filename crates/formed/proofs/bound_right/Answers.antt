@@ -21,16 +21,16 @@ pub returns-then-not-is_variable : goal.returns-then-not-is_variable
 unfolding bound_right is_entry
 returns-then-not-is_variable c =
     let w = c.args.image.now in
-    sym (two_fail _ _ _ (sym (c.is_variable.ensures ∙ of-variable w c.bound_word.ensures) ∙ c.if-not-is_variable.true))
+    sym (two_fail _ _ _ (sym (c.is_variable.ensures ∙ of-variable w c.word.ensures) ∙ c.if-not-is_variable.true))
 
-pub returns-then-bound_word-gt-UPPER : goal.returns-then-bound_word-gt-UPPER
+pub returns-then-word-gt-UPPER : goal.returns-then-word-gt-UPPER
 unfolding bound_right is_entry
-returns-then-bound_word-gt-UPPER c = sym (third_fails _ _ _ _ (ap (λ s. leb s upper) (sym c.bound_word-2.ensures) ∙ lt-leb _ _ c.if-bound_word-gt-UPPER.true))
+returns-then-word-gt-UPPER c = sym (third_fails _ _ _ _ (ap (λ s. leb s upper) (sym c.word-2.ensures) ∙ lt-leb _ _ c.if-word-gt-UPPER.true))
 
 pub returns : goal.returns
 unfolding bound_right is_entry
 returns c =
     let w = c.args.image.now in
-    rw (c.bound_word-3.ensures, ← entries_count w) (sym (fourth_decides _ _ _ _
-    (sym (c.is_variable.ensures ∙ of-variable w c.bound_word.ensures) ∙ c.if-not-is_variable.false)
-    (ap (λ s. leb s upper) (sym c.bound_word-2.ensures) ∙ le-leb _ _ c.if-bound_word-gt-UPPER.false)))
+    rw (c.word-3.ensures, ← entries_count w) (sym (fourth_decides _ _ _ _
+    (sym (c.is_variable.ensures ∙ of-variable w c.word.ensures) ∙ c.if-not-is_variable.false)
+    (ap (λ s. leb s upper) (sym c.word-2.ensures) ∙ le-leb _ _ c.if-word-gt-UPPER.false)))

@@ -5,4 +5,4 @@ use Rattle.formed.proofs.field_right.Goals as goal
 
 pub returns : goal.returns
 unfolding field_right is_entry
-returns c = rw (c.field_word.ensures, c.field_word-2.ensures, entries_count c.args.image.now)
+returns c = rw (c.word.ensures, c.word-2.ensures, entries_count c.args.image.now)

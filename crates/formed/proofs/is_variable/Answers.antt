@@ -8,8 +8,8 @@ use Rattle.image.specs.Shown.{entries_of}
 use Rattle.image.specs.Reading.{entries_count}
 use Rattle.formed.proofs.is_variable.Goals as goal
 
-pub entry_word-requires-clause-i_in_bounds : goal.entry_word-requires-clause-i_in_bounds
-entry_word-requires-clause-i_in_bounds c =
+pub word-requires-clause-i_in_bounds : goal.word-requires-clause-i_in_bounds
+word-requires-clause-i_in_bounds c =
     let n = entries_count c.args.image.now in
     omega arith
 
@@ -18,7 +18,7 @@ unfolding is_entry is_at is
 returns-then-v-image c =
     let w = c.args.image.now in
     let n = entries_count w in
-    rw (lt-ltb c.args.v (length (entries_of w)) (omega arith), c.entry_word.ensures)
+    rw (lt-ltb c.args.v (length (entries_of w)) (omega arith), c.word.ensures)
 
 pub returns-else-v-image : goal.returns-else-v-image
 unfolding is_entry

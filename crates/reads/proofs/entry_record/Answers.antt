@@ -18,35 +18,35 @@ use Rattle.turns.proofs.Turning.{stopped, read_on}
 use Rattle.reads.proofs.Records.{no_record, a_record, record_words}
 use Rattle.reads.proofs.entry_record.Goals as goal
 
-pub entries_count-requires : goal.entries_count-requires
-entries_count-requires c = formed_laid _ c.requires
+pub count-requires : goal.count-requires
+count-requires c = formed_laid _ c.requires
 
-pub returns-then-entries_count-n : goal.returns-then-entries_count-n
+pub returns-then-count-n : goal.returns-then-count-n
 unfolding read_record_turn
-returns-then-entries_count-n c =
+returns-then-count-n c =
     let w = c.args.image.now in
-    (stopped w BadNumber _ (is_region 1 && ltb c.args.n (count w 1)) (no_record w 1 c.args.n (omega (arith, c.entries_count.ensures, entries-are w)))).says
+    (stopped w BadNumber _ (is_region 1 && ltb c.args.n (count w 1)) (no_record w 1 c.args.n (omega (arith, c.count.ensures, entries-are w)))).says
 
-pub entry_word-kind-requires-clause-laid : goal.entry_word-kind-requires-clause-laid
-entry_word-kind-requires-clause-laid c = formed_laid _ c.requires
+pub word-kind-requires-clause-laid : goal.word-kind-requires-clause-laid
+word-kind-requires-clause-laid c = formed_laid _ c.requires
 
-pub entry_word-x-requires-clause-laid : goal.entry_word-x-requires-clause-laid
-entry_word-x-requires-clause-laid c = formed_laid _ c.requires
+pub word-x-requires-clause-laid : goal.word-x-requires-clause-laid
+word-x-requires-clause-laid c = formed_laid _ c.requires
 
-pub entry_word-y-requires-clause-laid : goal.entry_word-y-requires-clause-laid
-entry_word-y-requires-clause-laid c = formed_laid _ c.requires
+pub word-y-requires-clause-laid : goal.word-y-requires-clause-laid
+word-y-requires-clause-laid c = formed_laid _ c.requires
 
-pub entry_word-z-requires-clause-laid : goal.entry_word-z-requires-clause-laid
-entry_word-z-requires-clause-laid c = formed_laid _ c.requires
+pub word-z-requires-clause-laid : goal.word-z-requires-clause-laid
+word-z-requires-clause-laid c = formed_laid _ c.requires
 
-pub entry_word-flags-requires-clause-laid : goal.entry_word-flags-requires-clause-laid
-entry_word-flags-requires-clause-laid c = formed_laid _ c.requires
+pub word-flags-requires-clause-laid : goal.word-flags-requires-clause-laid
+word-flags-requires-clause-laid c = formed_laid _ c.requires
 
-pub entry_word-spread-requires-clause-laid : goal.entry_word-spread-requires-clause-laid
-entry_word-spread-requires-clause-laid c = formed_laid _ c.requires
+pub word-spread-requires-clause-laid : goal.word-spread-requires-clause-laid
+word-spread-requires-clause-laid c = formed_laid _ c.requires
 
-pub entry_word-negation-requires-clause-laid : goal.entry_word-negation-requires-clause-laid
-entry_word-negation-requires-clause-laid c = formed_laid _ c.requires
+pub word-negation-requires-clause-laid : goal.word-negation-requires-clause-laid
+word-negation-requires-clause-laid c = formed_laid _ c.requires
 
 pub returns : goal.returns
 unfolding read_record_turn response_of width_of table
@@ -54,6 +54,6 @@ returns c =
     let w = c.args.image.now in
     let n = c.args.n in
     let l = formed_laid w c.requires in
-    let lt : n < count w 1 = omega (arith, c.entries_count.ensures, entries-are w) in
+    let lt : n < count w 1 = omega (arith, c.count.ensures, entries-are w) in
     read_on w BadNumber _ (is_region 1 && ltb n (count w 1)) (a_record w 1 n refl lt)
-    (rw (c.entry_word-kind.ensures, c.entry_word-x.ensures, c.entry_word-y.ensures, c.entry_word-z.ensures, c.entry_word-flags.ensures, c.entry_word-spread.ensures, c.entry_word-negation.ensures) (ap (λ (x : List ℕ). done (1 ∷ x)) (record_words entry_coded w 1 n _ lt (omega arith))))
+    (rw (c.word-kind.ensures, c.word-x.ensures, c.word-y.ensures, c.word-z.ensures, c.word-flags.ensures, c.word-spread.ensures, c.word-negation.ensures) (ap (λ (x : List ℕ). done (1 ∷ x)) (record_words entry_coded w 1 n _ lt (omega arith))))

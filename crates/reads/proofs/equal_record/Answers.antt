@@ -18,20 +18,20 @@ use Rattle.turns.proofs.Turning.{stopped, read_on}
 use Rattle.reads.proofs.Records.{no_record, a_record, record_words}
 use Rattle.reads.proofs.equal_record.Goals as goal
 
-pub equals_count-requires : goal.equals_count-requires
-equals_count-requires c = formed_laid _ c.requires
+pub count-requires : goal.count-requires
+count-requires c = formed_laid _ c.requires
 
-pub returns-then-equals_count-n : goal.returns-then-equals_count-n
+pub returns-then-count-n : goal.returns-then-count-n
 unfolding read_record_turn
-returns-then-equals_count-n c =
+returns-then-count-n c =
     let w = c.args.image.now in
-    (stopped w BadNumber _ (is_region 6 && ltb c.args.n (count w 6)) (no_record w 6 c.args.n (omega (arith, c.equals_count.ensures, equals-are w)))).says
+    (stopped w BadNumber _ (is_region 6 && ltb c.args.n (count w 6)) (no_record w 6 c.args.n (omega (arith, c.count.ensures, equals-are w)))).says
 
-pub equal_word-left-requires-clause-laid : goal.equal_word-left-requires-clause-laid
-equal_word-left-requires-clause-laid c = formed_laid _ c.requires
+pub word-left-requires-clause-laid : goal.word-left-requires-clause-laid
+word-left-requires-clause-laid c = formed_laid _ c.requires
 
-pub equal_word-right-requires-clause-laid : goal.equal_word-right-requires-clause-laid
-equal_word-right-requires-clause-laid c = formed_laid _ c.requires
+pub word-right-requires-clause-laid : goal.word-right-requires-clause-laid
+word-right-requires-clause-laid c = formed_laid _ c.requires
 
 pub returns : goal.returns
 unfolding read_record_turn response_of width_of table
@@ -39,6 +39,6 @@ returns c =
     let w = c.args.image.now in
     let n = c.args.n in
     let l = formed_laid w c.requires in
-    let lt : n < count w 6 = omega (arith, c.equals_count.ensures, equals-are w) in
+    let lt : n < count w 6 = omega (arith, c.count.ensures, equals-are w) in
     read_on w BadNumber _ (is_region 6 && ltb n (count w 6)) (a_record w 6 n refl lt)
-    (rw (c.equal_word-left.ensures, c.equal_word-right.ensures) (ap (λ (x : List ℕ). done (6 ∷ x)) (record_words equal_coded w 6 n _ lt (omega arith))))
+    (rw (c.word-left.ensures, c.word-right.ensures) (ap (λ (x : List ℕ). done (6 ∷ x)) (record_words equal_coded w 6 n _ lt (omega arith))))

@@ -18,23 +18,23 @@ use Rattle.turns.proofs.Turning.{stopped, read_on}
 use Rattle.reads.proofs.Records.{no_record, a_record, record_words}
 use Rattle.reads.proofs.field_record.Goals as goal
 
-pub fields_count-requires : goal.fields_count-requires
-fields_count-requires c = formed_laid _ c.requires
+pub count-requires : goal.count-requires
+count-requires c = formed_laid _ c.requires
 
-pub returns-then-fields_count-n : goal.returns-then-fields_count-n
+pub returns-then-count-n : goal.returns-then-count-n
 unfolding read_record_turn
-returns-then-fields_count-n c =
+returns-then-count-n c =
     let w = c.args.image.now in
-    (stopped w BadNumber _ (is_region 2 && ltb c.args.n (count w 2)) (no_record w 2 c.args.n (omega (arith, c.fields_count.ensures, fields-are w)))).says
+    (stopped w BadNumber _ (is_region 2 && ltb c.args.n (count w 2)) (no_record w 2 c.args.n (omega (arith, c.count.ensures, fields-are w)))).says
 
-pub field_word-name-requires-clause-laid : goal.field_word-name-requires-clause-laid
-field_word-name-requires-clause-laid c = formed_laid _ c.requires
+pub word-name-requires-clause-laid : goal.word-name-requires-clause-laid
+word-name-requires-clause-laid c = formed_laid _ c.requires
 
-pub field_word-entry-requires-clause-laid : goal.field_word-entry-requires-clause-laid
-field_word-entry-requires-clause-laid c = formed_laid _ c.requires
+pub word-entry-requires-clause-laid : goal.word-entry-requires-clause-laid
+word-entry-requires-clause-laid c = formed_laid _ c.requires
 
-pub field_word-optional-requires-clause-laid : goal.field_word-optional-requires-clause-laid
-field_word-optional-requires-clause-laid c = formed_laid _ c.requires
+pub word-optional-requires-clause-laid : goal.word-optional-requires-clause-laid
+word-optional-requires-clause-laid c = formed_laid _ c.requires
 
 pub returns : goal.returns
 unfolding read_record_turn response_of width_of table
@@ -42,6 +42,6 @@ returns c =
     let w = c.args.image.now in
     let n = c.args.n in
     let l = formed_laid w c.requires in
-    let lt : n < count w 2 = omega (arith, c.fields_count.ensures, fields-are w) in
+    let lt : n < count w 2 = omega (arith, c.count.ensures, fields-are w) in
     read_on w BadNumber _ (is_region 2 && ltb n (count w 2)) (a_record w 2 n refl lt)
-    (rw (c.field_word-name.ensures, c.field_word-entry.ensures, c.field_word-optional.ensures) (ap (λ (x : List ℕ). done (2 ∷ x)) (record_words field_coded w 2 n _ lt (omega arith))))
+    (rw (c.word-name.ensures, c.word-entry.ensures, c.word-optional.ensures) (ap (λ (x : List ℕ). done (2 ∷ x)) (record_words field_coded w 2 n _ lt (omega arith))))

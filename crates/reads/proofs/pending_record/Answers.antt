@@ -18,20 +18,20 @@ use Rattle.turns.proofs.Turning.{stopped, read_on}
 use Rattle.reads.proofs.Records.{no_record, a_record, record_words}
 use Rattle.reads.proofs.pending_record.Goals as goal
 
-pub pending_count-requires : goal.pending_count-requires
-pending_count-requires c = formed_laid _ c.requires
+pub count-requires : goal.count-requires
+count-requires c = formed_laid _ c.requires
 
-pub returns-then-pending_count-n : goal.returns-then-pending_count-n
+pub returns-then-count-n : goal.returns-then-count-n
 unfolding read_record_turn
-returns-then-pending_count-n c =
+returns-then-count-n c =
     let w = c.args.image.now in
-    (stopped w BadNumber _ (is_region 5 && ltb c.args.n (count w 5)) (no_record w 5 c.args.n (omega (arith, c.pending_count.ensures, pending-are w)))).says
+    (stopped w BadNumber _ (is_region 5 && ltb c.args.n (count w 5)) (no_record w 5 c.args.n (omega (arith, c.count.ensures, pending-are w)))).says
 
-pub pending_word-sub-requires-clause-laid : goal.pending_word-sub-requires-clause-laid
-pending_word-sub-requires-clause-laid c = formed_laid _ c.requires
+pub word-sub-requires-clause-laid : goal.word-sub-requires-clause-laid
+word-sub-requires-clause-laid c = formed_laid _ c.requires
 
-pub pending_word-sup-requires-clause-laid : goal.pending_word-sup-requires-clause-laid
-pending_word-sup-requires-clause-laid c = formed_laid _ c.requires
+pub word-sup-requires-clause-laid : goal.word-sup-requires-clause-laid
+word-sup-requires-clause-laid c = formed_laid _ c.requires
 
 pub returns : goal.returns
 unfolding read_record_turn response_of width_of table
@@ -39,6 +39,6 @@ returns c =
     let w = c.args.image.now in
     let n = c.args.n in
     let l = formed_laid w c.requires in
-    let lt : n < count w 5 = omega (arith, c.pending_count.ensures, pending-are w) in
+    let lt : n < count w 5 = omega (arith, c.count.ensures, pending-are w) in
     read_on w BadNumber _ (is_region 5 && ltb n (count w 5)) (a_record w 5 n refl lt)
-    (rw (c.pending_word-sub.ensures, c.pending_word-sup.ensures) (ap (λ (x : List ℕ). done (5 ∷ x)) (record_words pending_coded w 5 n _ lt (omega arith))))
+    (rw (c.word-sub.ensures, c.word-sup.ensures) (ap (λ (x : List ℕ). done (5 ∷ x)) (record_words pending_coded w 5 n _ lt (omega arith))))

@@ -18,20 +18,20 @@ use Rattle.turns.proofs.Turning.{stopped, read_on}
 use Rattle.reads.proofs.Records.{no_record, a_record, record_words}
 use Rattle.reads.proofs.visited_record.Goals as goal
 
-pub visited_count-requires : goal.visited_count-requires
-visited_count-requires c = formed_laid _ c.requires
+pub count-requires : goal.count-requires
+count-requires c = formed_laid _ c.requires
 
-pub returns-then-visited_count-n : goal.returns-then-visited_count-n
+pub returns-then-count-n : goal.returns-then-count-n
 unfolding read_record_turn
-returns-then-visited_count-n c =
+returns-then-count-n c =
     let w = c.args.image.now in
-    (stopped w BadNumber _ (is_region 4 && ltb c.args.n (count w 4)) (no_record w 4 c.args.n (omega (arith, c.visited_count.ensures, visited-are w)))).says
+    (stopped w BadNumber _ (is_region 4 && ltb c.args.n (count w 4)) (no_record w 4 c.args.n (omega (arith, c.count.ensures, visited-are w)))).says
 
-pub visited_word-sub-requires-clause-laid : goal.visited_word-sub-requires-clause-laid
-visited_word-sub-requires-clause-laid c = formed_laid _ c.requires
+pub word-sub-requires-clause-laid : goal.word-sub-requires-clause-laid
+word-sub-requires-clause-laid c = formed_laid _ c.requires
 
-pub visited_word-sup-requires-clause-laid : goal.visited_word-sup-requires-clause-laid
-visited_word-sup-requires-clause-laid c = formed_laid _ c.requires
+pub word-sup-requires-clause-laid : goal.word-sup-requires-clause-laid
+word-sup-requires-clause-laid c = formed_laid _ c.requires
 
 pub returns : goal.returns
 unfolding read_record_turn response_of width_of table
@@ -39,6 +39,6 @@ returns c =
     let w = c.args.image.now in
     let n = c.args.n in
     let l = formed_laid w c.requires in
-    let lt : n < count w 4 = omega (arith, c.visited_count.ensures, visited-are w) in
+    let lt : n < count w 4 = omega (arith, c.count.ensures, visited-are w) in
     read_on w BadNumber _ (is_region 4 && ltb n (count w 4)) (a_record w 4 n refl lt)
-    (rw (c.visited_word-sub.ensures, c.visited_word-sup.ensures) (ap (λ (x : List ℕ). done (4 ∷ x)) (record_words visited_coded w 4 n _ lt (omega arith))))
+    (rw (c.word-sub.ensures, c.word-sup.ensures) (ap (λ (x : List ℕ). done (4 ∷ x)) (record_words visited_coded w 4 n _ lt (omega arith))))

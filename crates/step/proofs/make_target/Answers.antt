@@ -18,35 +18,35 @@ union_contains_member-requires-clause-n_in_bounds c = (target_asks _ _ _ c.requi
 pub returns-then-union_contains_member : goal.returns-then-union_contains_member
 returns-then-union_contains_member c = target_old _ _ _ c.requires.negatable c.requires.good c.requires.shallow c.requires.sup_in_bounds _ _ c.negate.ensures _ c.in_ok-n.was _ c.union_contains_member.ensures c.if-union_contains_member.true
 
-pub entries_count-number-requires : goal.entries_count-number-requires
-entries_count-number-requires c = target_laid _ _ _ c.requires.negatable c.requires.good c.requires.shallow c.requires.sup_in_bounds _ _ c.negate.ensures _ c.in_ok-n.was
+pub count-number-requires : goal.count-number-requires
+count-number-requires c = target_laid _ _ _ c.requires.negatable c.requires.good c.requires.shallow c.requires.sup_in_bounds _ _ c.negate.ensures _ c.in_ok-n.was
 
-pub entries_capacity-requires : goal.entries_capacity-requires
-entries_capacity-requires c = target_laid _ _ _ c.requires.negatable c.requires.good c.requires.shallow c.requires.sup_in_bounds _ _ c.negate.ensures _ c.in_ok-n.was
+pub capacity-requires : goal.capacity-requires
+capacity-requires c = target_laid _ _ _ c.requires.negatable c.requires.good c.requires.shallow c.requires.sup_in_bounds _ _ c.negate.ensures _ c.in_ok-n.was
 
-pub returns-then-entries_capacity-number : goal.returns-then-entries_capacity-number
-returns-then-entries_capacity-number c = target_none _ _ _ c.requires.negatable c.requires.good c.requires.shallow c.requires.sup_in_bounds _ _ c.negate.ensures _ c.in_ok-n.was _ c.union_contains_member.ensures c.if-union_contains_member.false _ _ c.entries_count-number.ensures c.entries_capacity.ensures c.if-entries_capacity-number.true
+pub returns-then-capacity-number : goal.returns-then-capacity-number
+returns-then-capacity-number c = target_none _ _ _ c.requires.negatable c.requires.good c.requires.shallow c.requires.sup_in_bounds _ _ c.negate.ensures _ c.in_ok-n.was _ c.union_contains_member.ensures c.if-union_contains_member.false _ _ c.count-number.ensures c.capacity.ensures c.if-capacity-number.true
 
-pub entry_word-requires-clause-laid : goal.entry_word-requires-clause-laid
-entry_word-requires-clause-laid c = target_laid _ _ _ c.requires.negatable c.requires.good c.requires.shallow c.requires.sup_in_bounds _ _ c.negate.ensures _ c.in_ok-n.was
+pub word-requires-clause-laid : goal.word-requires-clause-laid
+word-requires-clause-laid c = target_laid _ _ _ c.requires.negatable c.requires.good c.requires.shallow c.requires.sup_in_bounds _ _ c.negate.ensures _ c.in_ok-n.was
 
-pub entry_word-requires-clause-i_in_bounds : goal.entry_word-requires-clause-i_in_bounds
-entry_word-requires-clause-i_in_bounds c = target_below _ _ _ c.requires.negatable c.requires.good c.requires.shallow c.requires.sup_in_bounds _ _ c.negate.ensures _ c.in_ok-n.was
+pub word-requires-clause-i_in_bounds : goal.word-requires-clause-i_in_bounds
+word-requires-clause-i_in_bounds c = target_below _ _ _ c.requires.negatable c.requires.good c.requires.shallow c.requires.sup_in_bounds _ _ c.negate.ensures _ c.in_ok-n.was
 
 pub overflow_add-spread : goal.overflow_add-spread
-overflow_add-spread c = omega (arith, sup_low _ _ _ c.requires.negatable c.requires.good c.requires.shallow c.requires.sup_in_bounds _ _ c.negate.ensures _ c.in_ok-n.was _ c.entry_word.ensures)
+overflow_add-spread c = omega (arith, sup_low _ _ _ c.requires.negatable c.requires.good c.requires.shallow c.requires.sup_in_bounds _ _ c.negate.ensures _ c.in_ok-n.was _ c.word.ensures)
 
-pub entry_word-requires-2-clause-laid : goal.entry_word-requires-2-clause-laid
-entry_word-requires-2-clause-laid c = target_laid _ _ _ c.requires.negatable c.requires.good c.requires.shallow c.requires.sup_in_bounds _ _ c.negate.ensures _ c.in_ok-n.was
+pub word-requires-2-clause-laid : goal.word-requires-2-clause-laid
+word-requires-2-clause-laid c = target_laid _ _ _ c.requires.negatable c.requires.good c.requires.shallow c.requires.sup_in_bounds _ _ c.negate.ensures _ c.in_ok-n.was
 
-pub entry_word-requires-2-clause-i_in_bounds : goal.entry_word-requires-2-clause-i_in_bounds
-entry_word-requires-2-clause-i_in_bounds c = target_number _ _ _ c.requires.negatable c.requires.good c.requires.shallow c.requires.sup_in_bounds _ _ c.negate.ensures _ c.in_ok-n.was
+pub word-requires-2-clause-i_in_bounds : goal.word-requires-2-clause-i_in_bounds
+word-requires-2-clause-i_in_bounds c = target_number _ _ _ c.requires.negatable c.requires.good c.requires.shallow c.requires.sup_in_bounds _ _ c.negate.ensures _ c.in_ok-n.was
 
 pub overflow_add-spread-2 : goal.overflow_add-spread-2
-overflow_add-spread-2 c = omega (arith, sup_low _ _ _ c.requires.negatable c.requires.good c.requires.shallow c.requires.sup_in_bounds _ _ c.negate.ensures _ c.in_ok-n.was _ c.entry_word.ensures, negation_low _ _ _ c.requires.negatable c.requires.good c.requires.shallow c.requires.sup_in_bounds _ _ c.negate.ensures _ c.in_ok-n.was _ c.entry_word-2.ensures)
+overflow_add-spread-2 c = omega (arith, sup_low _ _ _ c.requires.negatable c.requires.good c.requires.shallow c.requires.sup_in_bounds _ _ c.negate.ensures _ c.in_ok-n.was _ c.word.ensures, negation_low _ _ _ c.requires.negatable c.requires.good c.requires.shallow c.requires.sup_in_bounds _ _ c.negate.ensures _ c.in_ok-n.was _ c.word-2.ensures)
 
 pub push_entry-requires-clause-shown : goal.push_entry-requires-clause-shown
-push_entry-requires-clause-shown c = (target_room _ _ _ c.requires.negatable c.requires.good c.requires.shallow c.requires.sup_in_bounds _ _ c.negate.ensures _ c.in_ok-n.was _ c.union_contains_member.ensures c.if-union_contains_member.false _ _ c.entries_count-number.ensures c.entries_capacity.ensures c.if-entries_capacity-number.false).0
+push_entry-requires-clause-shown c = (target_room _ _ _ c.requires.negatable c.requires.good c.requires.shallow c.requires.sup_in_bounds _ _ c.negate.ensures _ c.in_ok-n.was _ c.union_contains_member.ensures c.if-union_contains_member.false _ _ c.count-number.ensures c.capacity.ensures c.if-capacity-number.false).0
 
 pub returns : goal.returns
-returns c = target_new _ _ _ c.requires.negatable c.requires.good c.requires.shallow c.requires.sup_in_bounds _ _ c.negate.ensures _ c.in_ok-n.was _ c.union_contains_member.ensures c.if-union_contains_member.false _ _ c.entries_count-number.ensures c.entries_capacity.ensures c.if-entries_capacity-number.false _ _ c.entry_word.ensures c.entry_word-2.ensures _ c.push_entry.ensures
+returns c = target_new _ _ _ c.requires.negatable c.requires.good c.requires.shallow c.requires.sup_in_bounds _ _ c.negate.ensures _ c.in_ok-n.was _ c.union_contains_member.ensures c.if-union_contains_member.false _ _ c.count-number.ensures c.capacity.ensures c.if-capacity-number.false _ _ c.word.ensures c.word-2.ensures _ c.push_entry.ensures

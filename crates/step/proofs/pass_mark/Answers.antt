@@ -7,17 +7,17 @@ use Rattle.step.proofs.pass_mark.Goals as goal
 pub returns-then-side-ne-UPPER : goal.returns-then-side-ne-UPPER
 returns-then-side-ne-UPPER c = not_upper _ _ _ _ c.if-side-ne-UPPER.true c.requires.shown
 
-pub entry_word-requires-clause-laid : goal.entry_word-requires-clause-laid
-entry_word-requires-clause-laid c = shown_laid c.requires.shown
+pub word-requires-clause-laid : goal.word-requires-clause-laid
+word-requires-clause-laid c = shown_laid c.requires.shown
 
-pub returns-then-entry_word-ne-VARIABLE : goal.returns-then-entry_word-ne-VARIABLE
-returns-then-entry_word-ne-VARIABLE c = no_variable _ _ _ _ c.if-side-ne-UPPER.false _ c.entry_word.ensures (omega (arith, c.if-entry_word-ne-VARIABLE.true)) c.requires.shown
+pub returns-then-word-ne-VARIABLE : goal.returns-then-word-ne-VARIABLE
+returns-then-word-ne-VARIABLE c = no_variable _ _ _ _ c.if-side-ne-UPPER.false _ c.word.ensures (omega (arith, c.if-word-ne-VARIABLE.true)) c.requires.shown
 
-pub entry_word-requires-2-clause-laid : goal.entry_word-requires-2-clause-laid
-entry_word-requires-2-clause-laid c = shown_laid c.requires.shown
+pub word-requires-2-clause-laid : goal.word-requires-2-clause-laid
+word-requires-2-clause-laid c = shown_laid c.requires.shown
 
 pub returns-then-says_mark : goal.returns-then-says_mark
-returns-then-says_mark c = mark_passed _ _ _ _ c.if-side-ne-UPPER.false _ c.entry_word.ensures (omega (arith, c.if-entry_word-ne-VARIABLE.false)) _ c.entry_word-2.ensures _ c.says_mark.ensures c.if-says_mark.true _ c.put_mark.ensures
+returns-then-says_mark c = mark_passed _ _ _ _ c.if-side-ne-UPPER.false _ c.word.ensures (omega (arith, c.if-word-ne-VARIABLE.false)) _ c.word-2.ensures _ c.says_mark.ensures c.if-says_mark.true _ c.put_mark.ensures
 
 pub returns-else-says_mark : goal.returns-else-says_mark
-returns-else-says_mark c = mark_none _ _ _ _ c.if-side-ne-UPPER.false _ c.entry_word.ensures (omega (arith, c.if-entry_word-ne-VARIABLE.false)) _ c.entry_word-2.ensures _ c.says_mark.ensures c.if-says_mark.false c.requires.shown
+returns-else-says_mark c = mark_none _ _ _ _ c.if-side-ne-UPPER.false _ c.word.ensures (omega (arith, c.if-word-ne-VARIABLE.false)) _ c.word-2.ensures _ c.says_mark.ensures c.if-says_mark.false c.requires.shown

@@ -4,8 +4,8 @@ use Rattle.image.proofs.Laying.{formed_shown, formed_laid}
 use Rattle.storage.proofs.Replying.{bound_same, bound_full, bound_done}
 use Rattle.storage.proofs.put_bound.Goals as goal
 
-pub bounds_count-n-requires : goal.bounds_count-n-requires
-bounds_count-n-requires c = formed_laid _ c.requires
+pub count-n-requires : goal.count-n-requires
+count-n-requires c = formed_laid _ c.requires
 
 pub repeats_bound-requires-clause-laid : goal.repeats_bound-requires-clause-laid
 repeats_bound-requires-clause-laid c = formed_laid _ c.requires
@@ -15,12 +15,12 @@ returns-then-repeats_bound c =
     let r = bound_same _ _ _ _ c.requires (sym c.repeats_bound.ensures ∙ c.if-repeats_bound.true) in
     record { result_value = r.0; image_after = r.1 }
 
-pub bounds_capacity-requires : goal.bounds_capacity-requires
-bounds_capacity-requires c = formed_laid _ c.requires
+pub capacity-requires : goal.capacity-requires
+capacity-requires c = formed_laid _ c.requires
 
-pub returns-then-bounds_capacity-n : goal.returns-then-bounds_capacity-n
-returns-then-bounds_capacity-n c =
-    let r = bound_full _ _ _ _ c.requires (sym c.repeats_bound.ensures ∙ c.if-repeats_bound.false) _ _ c.bounds_count-n.ensures c.bounds_capacity.ensures c.if-bounds_capacity-n.true in
+pub returns-then-capacity-n : goal.returns-then-capacity-n
+returns-then-capacity-n c =
+    let r = bound_full _ _ _ _ c.requires (sym c.repeats_bound.ensures ∙ c.if-repeats_bound.false) _ _ c.count-n.ensures c.capacity.ensures c.if-capacity-n.true in
     record { result_value = r.0; image_after = r.1 }
 
 pub push_bound-requires-clause-shown : goal.push_bound-requires-clause-shown
@@ -28,5 +28,5 @@ push_bound-requires-clause-shown c = formed_shown _ c.requires
 
 pub returns : goal.returns
 returns c =
-    let r = bound_done _ _ _ _ c.requires (sym c.repeats_bound.ensures ∙ c.if-repeats_bound.false) _ _ c.bounds_count-n.ensures c.bounds_capacity.ensures c.if-bounds_capacity-n.false _ c.push_bound.ensures in
+    let r = bound_done _ _ _ _ c.requires (sym c.repeats_bound.ensures ∙ c.if-repeats_bound.false) _ _ c.count-n.ensures c.capacity.ensures c.if-capacity-n.false _ c.push_bound.ensures in
     record { result_value = r.0; image_after = r.1 }

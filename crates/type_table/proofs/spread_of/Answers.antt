@@ -14,9 +14,9 @@ returns-in-0-to-4 c =
 pub returns-in-5-to-6 : goal.returns-in-5-to-6
 returns-in-5-to-6 c =
     let a = c.args in
-    ap (λ (i : ℕ). 1 + i) c.entry_word.ensures ∙ sym (spread_inner (entries_of a.image.now) a.kind a.x a.y (omega arith) (omega arith))
+    ap (λ (i : ℕ). 1 + i) c.word.ensures ∙ sym (spread_inner (entries_of a.image.now) a.kind a.x a.y (omega arith) (omega arith))
 
 pub returns-in_default : goal.returns-in_default
 returns-in_default c =
     let a = c.args in
-    omega (arith, c.entry_word-in_default.ensures, c.entry_word-in_default-2.ensures, spread_both (entries_of a.image.now) a.kind a.x a.y (omega arith))
+    omega (arith, c.word-in_default.ensures, c.word-in_default-2.ensures, spread_both (entries_of a.image.now) a.kind a.x a.y (omega arith))

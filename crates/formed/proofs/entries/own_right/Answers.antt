@@ -22,7 +22,7 @@ pub loop-k-preserved : goal.loop-k-preserved
 loop-k-preserved c =
     let a = c.args in
     let l = c.loop-k in
-    let h = own_step _ _ (fields_in a.image.now) a.first a.fields c.requires.fields_in_bounds l.ok l.least l.k c.field_word-name.result c.field_word-entry.result l.invariant.1 (omega arith) c.field_word-name.ensures c.field_word-entry.ensures in
+    let h = own_step _ _ (fields_in a.image.now) a.first a.fields c.requires.fields_in_bounds l.ok l.least l.k c.word-name.result c.word-entry.result l.invariant.1 (omega arith) c.word-name.ensures c.word-entry.ensures in
     (search rules, rw (c.wide.ensures.0, c.wide-least.ensures.0) h)
 
 pub returns : goal.returns

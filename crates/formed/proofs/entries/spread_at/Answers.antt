@@ -7,8 +7,8 @@ use Rattle.image.specs.Shown.{entries_of}
 use Rattle.image.specs.Reading.{entries_count}
 use Rattle.formed.proofs.entries.spread_at.Goals as goal
 
-pub entry_word-requires-clause-i_in_bounds : goal.entry_word-requires-clause-i_in_bounds
-entry_word-requires-clause-i_in_bounds c =
+pub word-requires-clause-i_in_bounds : goal.word-requires-clause-i_in_bounds
+word-requires-clause-i_in_bounds c =
     let n = entries_count c.args.image.now in
     omega arith
 
