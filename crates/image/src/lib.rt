@@ -18,11 +18,10 @@ ghost use Rattle.image.specs.Laid.{Laid, At};
 ghost use Rattle.image.specs.Shown.{Shown, store_of, entries_of, fields_in, bounds_all, visited_in, pending_in, equals_in};
 ghost use Rattle.image.specs.Records.{field_at, bound_at, visited_at, pending_at, equal_at, says_mark, says_open, says_dynamic, dynamic_read, attrset_read};
 
-pub use regions::{Bounds, Entries, Equals, Fields, Pending, Region, Visited, capacity, count, word};
-
 use model::{Attrset, Entry};
 pub use regions::{
-    Bounds, Entries, Equals, Fields, Pending, Region, Visited, capacity, count, word,
+    Bounds, Bounds, Entries, Entries, Equals, Equals, Fields, Fields, Pending, Pending, Region,
+    Region, Visited, Visited, capacity, capacity, count, count, word, word,
 };
 
 // How many records each region takes.

@@ -29,6 +29,7 @@ struct Told {
     name: u32,
 }
 
+// The numbers are those of a stored line's fifth word: 0 to 3, 100 and more where refused, 200 and more at the opening.
 impl From<Result<Answer, Unanswered>> for Told {
     fn from(answer: Result<Answer, Unanswered>) -> Told {
         let (answer, sub, sup, name) = match answer {

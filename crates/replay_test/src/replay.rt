@@ -50,7 +50,7 @@ impl Replay {
         }
     }
 
-    // Does what a line says, or holds the table to it.
+    // Does what a line says, or holds the table to it. A stored line's letter is read here, or where its call or record stands, once.
     fn act(&mut self, line: &Line) -> io::Result<()> {
         if let Some(made) = self.table.make(line) {
             return self.report.made(line.number(0), made);
