@@ -12,8 +12,7 @@ ghost use Rattle.image.specs.Reading.{entries_taken, fields_taken, bounds_taken,
 ghost use Rattle.image.specs.Reading.{entries_lies, fields_lies, bounds_lies, visited_lies, pending_lies, equals_lies};
 ghost use Rattle.image.specs.Reading.{entries_read, fields_read, bounds_read, visited_read, pending_read, equals_read};
 
-use crate::format;
-use crate::wide;
+use crate::{format, wide};
 
 // A region: its number, how wide its records are, and what the table has there: how many records, how many it takes, and the words of
 // each. Below `start`, what holds of the words.
