@@ -219,7 +219,8 @@ fn bound_right(image: &[u32], i: u32) -> bool
     if image::format::UPPER < image::word::<Bounds>(image, i, image::format::SIDE_WORD) {
         return false;
     }
-    image::word::<Bounds>(image, i, image::format::BOUND_WORD) < image[image::format::ENTRIES_COUNT_AT]
+    image::word::<Bounds>(image, i, image::format::BOUND_WORD)
+        < image[image::format::ENTRIES_COUNT_AT]
 }
 
 // Whether every bound record is right.
