@@ -1,5 +1,5 @@
 -- A field by its name, as the number of its record. Assumes nothing.
-use Rattle.std.specs.Prelude.{ℕ, zero, suc, ◌+◌, ◌<◌, ◌≤◌, List, [], ◌∷◌, Bool, true, false, cond, length, take, drop, eqb, None, Some, Option}
+use Rattle.std.specs.Prelude.{ℕ, zero, suc, ◌+◌, ◌<◌, ◌≤◌, List, [], ◌∷◌, cond, length, take, drop, eqb, None, Some, Option}
 use Rattle.model.specs.Format.{attrset}
 use Rattle.model.specs.Table.{Entry, Field, Graph, is}
 use Rattle.model.specs.declared.Attrset.{Attrset}

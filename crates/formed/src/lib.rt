@@ -219,12 +219,8 @@ fn bound_right(image: &[u32], i: u32) -> bool
     if image::format::UPPER < image::word::<Bounds>(image, i, image::format::SIDE_WORD) {
         return false;
     }
-<<<<<<< HEAD
     image::word::<Bounds>(image, i, image::format::BOUND_WORD)
         < image[image::format::ENTRIES_COUNT_AT]
-=======
-    image::word::<Bounds>(image, i, image::format::BOUND_WORD) < image[image::format::ENTRIES_COUNT_AT]
->>>>>>> origin/regions
 }
 
 // Whether every bound record is right.

@@ -8,20 +8,19 @@ pub mod format;
 pub mod regions;
 
 ghost use Rattle.std.specs.Prelude.{◌≡◌, ◌+◌, ◌-◌, ◌*◌, ◌≤◌, ◌<◌, length, drop};
-ghost use Rattle.model.specs.Format.{word_end, capacity_at, count_at, entry_width, field_width, bound_width, visited_width, pending_width, equals_width};
+ghost use Rattle.model.specs.Format.{word_end};
 ghost use Rattle.model.specs.Lists.{any, read_many};
 ghost use Rattle.model.specs.Table.{◌⊑◌, entry_at, is_asked};
-ghost use Rattle.model.specs.Image.{word, offset, capacity, count, table, visited_of, entry_words, field_words, bound_words, visited_words, pending_words, equal_words};
+ghost use Rattle.model.specs.Image.{word, offset, capacity, count, table, visited_of};
 ghost use Rattle.model.specs.Calls.{read_out};
 ghost use Rattle.model.specs.Rules.{same_pair, is_visited};
-ghost use Rattle.image.specs.Laid.{Laid, At};
-ghost use Rattle.image.specs.Shown.{Shown, store_of, entries_of, fields_in, bounds_all, visited_in, pending_in, equals_in};
-ghost use Rattle.image.specs.Records.{field_at, bound_at, visited_at, pending_at, equal_at, says_mark, says_open, says_dynamic, dynamic_read, attrset_read};
+ghost use Rattle.image.specs.Laid.{Laid};
+ghost use Rattle.image.specs.Shown.{Shown, store_of, entries_of};
+ghost use Rattle.image.specs.Records.{says_mark, says_open, says_dynamic, dynamic_read, attrset_read};
 
 use model::{Attrset, Entry};
 pub use regions::{
-    Bounds, Bounds, Entries, Entries, Equals, Equals, Fields, Fields, Pending, Pending, Region,
-    Region, Visited, Visited, capacity, capacity, count, count, word, word,
+    Bounds, Entries, Equals, Fields, Pending, Region, Visited, capacity, count, word,
 };
 
 // How many records each region takes.

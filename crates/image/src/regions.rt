@@ -12,12 +12,7 @@ ghost use Rattle.image.specs.Reading.{entries_taken, fields_taken, bounds_taken,
 ghost use Rattle.image.specs.Reading.{entries_lies, fields_lies, bounds_lies, visited_lies, pending_lies, equals_lies};
 ghost use Rattle.image.specs.Reading.{entries_read, fields_read, bounds_read, visited_read, pending_read, equals_read};
 
-<<<<<<< HEAD
 use crate::{format, wide};
-=======
-use crate::format;
-use crate::wide;
->>>>>>> origin/regions
 
 // A region: its number, how wide its records are, and what the table has there: how many records, how many it takes, and the words of
 // each. Below `start`, what holds of the words.
@@ -36,10 +31,13 @@ pub trait Region {
 
     ghost words: { List ℕ → ℕ → List ℕ };
 
-    // Where its records start.
+    // Where its records start: the header says it.
     fn start(image: &[u32]) -> usize
         requires { Laid image.now }
-        ensures { result ≡ offset image.now NUMBER };
+        ensures { result ≡ offset image.now NUMBER }
+    {
+        wide(image[format::OFFSET_AT + format::REGION_STEP * Self::NUMBER])
+    }
 
     ghost counted: { (w : List ℕ) → many w ≡ count w NUMBER };
 
@@ -67,6 +65,7 @@ impl Region for Entries {
 
     ghost words = { λ w i. entry_words (entry_at (entries_of w) i) };
 
+    // Behind the header: no word is read for it.
     fn start(image: &[u32]) -> usize {
         format::HEADER_WORDS
     }
@@ -97,10 +96,6 @@ impl Region for Fields {
 
     ghost words = { λ w i. field_words (field_at (fields_in w) i) };
 
-    fn start(image: &[u32]) -> usize {
-        wide(image[format::FIELDS_OFFSET_AT])
-    }
-
     ghost counted = { fields_count };
 
     ghost taken = { fields_taken };
@@ -126,10 +121,6 @@ impl Region for Bounds {
     ghost room = { λ w. (store_of w).capacities.bounds };
 
     ghost words = { λ w i. bound_words (bound_at (bounds_all w) i) };
-
-    fn start(image: &[u32]) -> usize {
-        wide(image[format::BOUNDS_OFFSET_AT])
-    }
 
     ghost counted = { bounds_count };
 
@@ -157,10 +148,6 @@ impl Region for Visited {
 
     ghost words = { λ w i. visited_words (visited_at (visited_in w) i) };
 
-    fn start(image: &[u32]) -> usize {
-        wide(image[format::VISITED_OFFSET_AT])
-    }
-
     ghost counted = { visited_count };
 
     ghost taken = { visited_taken };
@@ -187,10 +174,6 @@ impl Region for Pending {
 
     ghost words = { λ w i. pending_words (pending_at (pending_in w) i) };
 
-    fn start(image: &[u32]) -> usize {
-        wide(image[format::PENDING_OFFSET_AT])
-    }
-
     ghost counted = { pending_count };
 
     ghost taken = { pending_taken };
@@ -216,10 +199,6 @@ impl Region for Equals {
     ghost room = { λ w. (store_of w).capacities.equals };
 
     ghost words = { λ w i. equal_words (equal_at (equals_in w) i) };
-
-    fn start(image: &[u32]) -> usize {
-        wide(image[format::EQUALS_OFFSET_AT])
-    }
 
     ghost counted = { equals_count };
 

@@ -1,5 +1,5 @@
 -- What the loops of `field_named` keep.
-use Prim.Native.Nat.{◌≤◌, ◌-◌}
+use Prim.Native.Nat.{◌≤◌}
 use mathlib.Core.Path.{◌≡◌}
 use lib.ListN.{length}
 use Rattle.image.specs.Shown.{fields_in}

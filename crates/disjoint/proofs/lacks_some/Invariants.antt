@@ -1,5 +1,5 @@
 -- What the loops of `lacks_some` keep.
-use Prim.Native.Nat.{◌≤◌, ◌-◌}
+use Prim.Native.Nat.{◌≤◌}
 use mathlib.Core.Path.{◌≡◌}
 use lib.ListN.{length}
 use Rattle.model.specs.Lists.{any}

@@ -1,5 +1,4 @@
 -- What the loops of `known` keep.
-use Prim.Native.Nat.{◌-◌}
 use lib.Dec.{ltb}
 use Rattle.field_list.proofs.Fields.{Tested}
 use Rattle.field_list.proofs.known.Given as goal

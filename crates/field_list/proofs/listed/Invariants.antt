@@ -1,5 +1,4 @@
 -- What the loops of `listed` keep.
-use Prim.Native.Nat.{◌-◌}
 use Rattle.field_list.proofs.Fields.{Listed}
 use Rattle.field_list.proofs.listed.Given as goal
 

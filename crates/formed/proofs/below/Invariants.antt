@@ -1,5 +1,5 @@
 -- What the loops of `below` keep, and why they end.
-use Prim.Native.Nat.{◌≤◌, ◌-◌}
+use Prim.Native.Nat.{◌≤◌}
 use mathlib.Core.Path.{◌≡◌}
 use lib.ListN.{length, take}
 use lib.Dec.{ltb}

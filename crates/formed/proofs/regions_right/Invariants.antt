@@ -1,5 +1,5 @@
 -- What the loops of `regions_right` keep.
-use Prim.Native.Nat.{◌≤◌, ◌+◌, ◌*◌, ◌-◌}
+use Prim.Native.Nat.{◌≤◌, ◌+◌, ◌*◌}
 use mathlib.Core.Path.{◌≡◌}
 use Rattle.model.specs.Format.{regions, newest, header_words, entry_width, word_end}
 use Rattle.model.specs.Parts.{regions_right}

@@ -1,5 +1,5 @@
 -- What the loops of `rests_zero` keep.
-use Prim.Native.Nat.{◌-◌, ◌≤◌}
+use Prim.Native.Nat.{◌≤◌}
 use mathlib.Core.Path.{◌≡◌}
 use mathlib.Core.Bool.{◌&&◌}
 use Rattle.model.specs.Format.{rows, newest}

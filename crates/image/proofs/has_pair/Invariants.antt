@@ -5,7 +5,7 @@ use Rattle.model.specs.Table.{◌⊑◌}
 use Rattle.model.specs.Lists.{any, read_many}
 use mathlib.Core.Bool.{false}
 use lib.ListN.{drop}
-use Prim.Native.Nat.{◌-◌, ◌≤◌}
+use Prim.Native.Nat.{◌≤◌}
 use mathlib.Core.Path.{◌≡◌}
 use Rattle.image.proofs.has_pair.Given as goal
 

@@ -1,5 +1,5 @@
 -- What the loops of `count_bounds` keep.
-use Prim.Native.Nat.{◌≤◌, ◌-◌}
+use Prim.Native.Nat.{◌≤◌}
 use Rattle.image.specs.Shown.{bounds_all}
 use Rattle.storage.proofs.Scan.{Counted}
 use Rattle.storage.proofs.count_bounds.Given as goal

@@ -1,5 +1,5 @@
 -- What the loops of `has_bound` keep.
-use Prim.Native.Nat.{◌≤◌, ◌-◌}
+use Prim.Native.Nat.{◌≤◌}
 use Rattle.image.specs.Shown.{bounds_all}
 use Rattle.storage.proofs.Scan.{Sought}
 use Rattle.storage.proofs.has_bound.Given as goal

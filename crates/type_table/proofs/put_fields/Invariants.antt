@@ -1,5 +1,4 @@
 -- What the loops of `put_fields` keep.
-use Prim.Native.Nat.{◌-◌}
 use Rattle.type_table.proofs.Attrsets.{Fielded}
 use Rattle.type_table.proofs.put_fields.Given as goal
 

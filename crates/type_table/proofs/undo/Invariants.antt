@@ -1,5 +1,4 @@
 -- What the loops of `undo` keep.
-use Prim.Native.Nat.{◌-◌}
 use Rattle.model.specs.Image.{table}
 use Rattle.type_table.proofs.Undoing.{Put}
 use Rattle.type_table.proofs.undo.Given as goal

@@ -1,5 +1,5 @@
 -- What the loops of `own_right` keep.
-use Prim.Native.Nat.{◌≤◌, ◌-◌}
+use Prim.Native.Nat.{◌≤◌}
 use Rattle.image.specs.Shown.{fields_in}
 use Rattle.formed.proofs.Owned.{Walked}
 use Rattle.formed.proofs.entries.own_right.Given as goal

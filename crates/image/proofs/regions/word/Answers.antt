@@ -5,40 +5,25 @@ use Rattle.image.proofs.regions.word.Goals as goal
 
 pub overflow_mul-result : goal.overflow_mul-result
 overflow_mul-result g c =
-    let a = c.args in
     let r = g.met.R.Region in
-    let w = a.image.now in
-    let m = word_inside (r.lies w c.requires.laid) a.i a.j (rw (r.counted w) at c.requires.i_in_bounds) c.requires.j_in_width c.start.ensures c.WIDTH.ensures c.wide.ensures in
-    omega (arith, m)
+    omega (arith, word_inside (r.lies _ c.requires.laid) _ _ (rw (r.counted c.args.image.now) at c.requires.i_in_bounds) c.requires.j_in_width c.start.ensures c.WIDTH.ensures c.wide.ensures)
 
 pub overflow_add-result : goal.overflow_add-result
 overflow_add-result g c =
-    let a = c.args in
     let r = g.met.R.Region in
-    let w = a.image.now in
-    let m = word_inside (r.lies w c.requires.laid) a.i a.j (rw (r.counted w) at c.requires.i_in_bounds) c.requires.j_in_width c.start.ensures c.WIDTH.ensures c.wide.ensures in
-    omega (arith, m)
+    omega (arith, word_inside (r.lies _ c.requires.laid) _ _ (rw (r.counted c.args.image.now) at c.requires.i_in_bounds) c.requires.j_in_width c.start.ensures c.WIDTH.ensures c.wide.ensures)
 
 pub overflow_add-result-2 : goal.overflow_add-result-2
 overflow_add-result-2 g c =
-    let a = c.args in
     let r = g.met.R.Region in
-    let w = a.image.now in
-    let m = word_inside (r.lies w c.requires.laid) a.i a.j (rw (r.counted w) at c.requires.i_in_bounds) c.requires.j_in_width c.start.ensures c.WIDTH.ensures c.wide.ensures in
-    omega (arith, m)
+    omega (arith, word_inside (r.lies _ c.requires.laid) _ _ (rw (r.counted c.args.image.now) at c.requires.i_in_bounds) c.requires.j_in_width c.start.ensures c.WIDTH.ensures c.wide.ensures)
 
 pub offset_bounds-image-start : goal.offset_bounds-image-start
 offset_bounds-image-start g c =
-    let a = c.args in
     let r = g.met.R.Region in
-    let w = a.image.now in
-    let m = word_inside (r.lies w c.requires.laid) a.i a.j (rw (r.counted w) at c.requires.i_in_bounds) c.requires.j_in_width c.start.ensures c.WIDTH.ensures c.wide.ensures in
-    omega (arith, m)
+    omega (arith, word_inside (r.lies _ c.requires.laid) _ _ (rw (r.counted c.args.image.now) at c.requires.i_in_bounds) c.requires.j_in_width c.start.ensures c.WIDTH.ensures c.wide.ensures)
 
 pub bounds-image-start : goal.bounds-image-start
 bounds-image-start g c =
-    let a = c.args in
     let r = g.met.R.Region in
-    let w = a.image.now in
-    let m = word_inside (r.lies w c.requires.laid) a.i a.j (rw (r.counted w) at c.requires.i_in_bounds) c.requires.j_in_width c.start.ensures c.WIDTH.ensures c.wide.ensures in
-    omega (arith, m)
+    omega (arith, word_inside (r.lies _ c.requires.laid) _ _ (rw (r.counted c.args.image.now) at c.requires.i_in_bounds) c.requires.j_in_width c.start.ensures c.WIDTH.ensures c.wide.ensures)
