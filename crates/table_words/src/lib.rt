@@ -105,12 +105,3 @@ pub fn size_of(c: Capacities) -> usize {
         + image::format::PENDING_WIDTH * c.pending as usize
         + image::format::EQUALS_WIDTH * c.equals as usize
 }
-
-// As many words as the largest table has.
-pub const WORDS_MOST: usize = image::format::HEADER_WORDS
-    + image::format::ENTRY_WIDTH * image::format::ENTRIES_MOST as usize
-    + image::format::FIELD_WIDTH * image::format::FIELDS_MOST as usize
-    + image::format::BOUND_WIDTH * image::format::BOUNDS_MOST as usize
-    + image::format::VISITED_WIDTH * image::format::VISITED_MOST as usize
-    + image::format::PENDING_WIDTH * image::format::PENDING_MOST as usize
-    + image::format::EQUALS_WIDTH * image::format::EQUALS_MOST as usize;

@@ -251,7 +251,7 @@ impl<'a, W: Write> Session<'a, W> {
     }
 }
 
-// The table as it is shown.
+// The table as it is shown; no method, since what shows it borrows `out` beside it.
 pub fn shown<'b>(desk: &'b Desk<'_>, table: &'b Vec<u32>) -> Shown<'b> {
     Shown {
         labels: desk.labels.as_slice(),
