@@ -152,7 +152,9 @@ fn is_deep(image: &[u32], old: u32) -> bool
     ensures { result ≡ too_deep (entries_of image.now) }
 {
     for i in old..image::count::<Entries>(image) {
-        if image::format::SPREAD_MOST < image::word::<Entries>(image, i, image::format::SPREAD_WORD) {
+        if image::format::SPREAD_MOST
+            < image::word::<Entries>(image, i, image::format::SPREAD_WORD)
+        {
             return true;
         }
     }
