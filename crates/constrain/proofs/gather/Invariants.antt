@@ -1,5 +1,4 @@
 -- What the loops of `gather` keep.
-use Prim.Native.Nat.{◌-◌}
 use Rattle.image.specs.Shown.{fields_in}
 use Rattle.constrain.proofs.Gathering.{Going}
 use Rattle.constrain.proofs.gather.Given as goal

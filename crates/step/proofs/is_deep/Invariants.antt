@@ -1,5 +1,5 @@
 -- What the loops of `is_deep` keep.
-use Prim.Native.Nat.{◌≤◌, ◌-◌}
+use Prim.Native.Nat.{◌≤◌}
 use lib.ListN.{length}
 use Rattle.image.specs.Shown.{entries_of}
 use Rattle.step.proofs.Settling.{ShallowTo}
