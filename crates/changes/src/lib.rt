@@ -52,7 +52,7 @@ pub fn one_in(image: &mut [u32], kind: u32, x: u32, label: u32) -> Result<u32, R
     if image::is_asked(image) {
         return Err(Refusal::Busy);
     }
-    if image::count::<Entries>(image) <= x {
+    if image::records::<Entries>(image) <= x {
         return Err(Refusal::BadNumber);
     }
     type_table::make(image, kind, x, label)
@@ -67,10 +67,10 @@ pub fn two_in(image: &mut [u32], kind: u32, x: u32, y: u32) -> Result<u32, Refus
     if image::is_asked(image) {
         return Err(Refusal::Busy);
     }
-    if image::count::<Entries>(image) <= x {
+    if image::records::<Entries>(image) <= x {
         return Err(Refusal::BadNumber);
     }
-    if image::count::<Entries>(image) <= y {
+    if image::records::<Entries>(image) <= y {
         return Err(Refusal::BadNumber);
     }
     type_table::make(image, kind, x, y)
@@ -85,7 +85,7 @@ pub fn neg_in(image: &mut [u32], n: u32) -> Result<u32, Refusal>
     if image::is_asked(image) {
         return Err(Refusal::Busy);
     }
-    if image::count::<Entries>(image) <= n {
+    if image::records::<Entries>(image) <= n {
         return Err(Refusal::BadNumber);
     }
     type_table::make_neg(image, n)
@@ -98,7 +98,7 @@ fn dynamic_known(image: &[u32], dynamic: Option<u32>) -> bool
 {
     match dynamic {
         None => true,
-        Some(n) => n < image::count::<Entries>(image),
+        Some(n) => n < image::records::<Entries>(image),
     }
 }
 
@@ -119,7 +119,7 @@ pub fn attrset_in(
     if !field_list::listed(image::name_count(image), fields) {
         return Err(Refusal::BadFields);
     }
-    if !field_list::known(image::count::<Entries>(image), fields) {
+    if !field_list::known(image::records::<Entries>(image), fields) {
         return Err(Refusal::BadNumber);
     }
     if !dynamic_known(image, dynamic) {
@@ -137,7 +137,7 @@ pub fn mark_in(image: &mut [u32], n: u32) -> Result<(), Refusal>
     if image::is_asked(image) {
         return Err(Refusal::Busy);
     }
-    if image::count::<Entries>(image) <= n {
+    if image::records::<Entries>(image) <= n {
         return Err(Refusal::BadNumber);
     }
     storage::mark(image, n);
@@ -153,13 +153,13 @@ pub fn bound_in(image: &mut [u32], v: u32, side: u32, b: u32) -> Result<(), Refu
     if image::is_asked(image) {
         return Err(Refusal::Busy);
     }
-    if image::count::<Entries>(image) <= v {
+    if image::records::<Entries>(image) <= v {
         return Err(Refusal::BadNumber);
     }
     if image::format::UPPER < side {
         return Err(Refusal::BadNumber);
     }
-    if image::count::<Entries>(image) <= b {
+    if image::records::<Entries>(image) <= b {
         return Err(Refusal::BadNumber);
     }
     if image::word::<Entries>(image, v, image::format::KIND_WORD) != image::format::VARIABLE {
@@ -201,7 +201,7 @@ pub fn level_in(image: &mut [u32], v: u32, level: u32) -> Result<(), Refusal>
     if image::is_asked(image) {
         return Err(Refusal::Busy);
     }
-    if image::count::<Entries>(image) <= v {
+    if image::records::<Entries>(image) <= v {
         return Err(Refusal::BadNumber);
     }
     if image::word::<Entries>(image, v, image::format::KIND_WORD) != image::format::VARIABLE {

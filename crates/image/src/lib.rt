@@ -8,7 +8,7 @@ pub mod format;
 pub mod regions;
 
 ghost use Rattle.std.specs.Prelude.{◌≡◌, ◌+◌, ◌-◌, ◌*◌, ◌≤◌, ◌<◌, length, drop};
-ghost use Rattle.model.specs.Format.{word_end};
+ghost use Rattle.model.specs.Format.{word_end, capacity_at, count_at};
 ghost use Rattle.model.specs.Lists.{any, read_many};
 ghost use Rattle.model.specs.Table.{◌⊑◌, entry_at, is_asked};
 ghost use Rattle.model.specs.Image.{word, offset, capacity, count, table, visited_of};
@@ -19,9 +19,7 @@ ghost use Rattle.image.specs.Shown.{Shown, store_of, entries_of};
 ghost use Rattle.image.specs.Records.{says_mark, says_open, says_dynamic, dynamic_read, attrset_read};
 
 use model::{Attrset, Entry};
-pub use regions::{
-    Bounds, Entries, Equals, Fields, Pending, Region, Visited, capacity, count, word,
-};
+pub use regions::{Bounds, Entries, Equals, Fields, Pending, Region, Visited, records, room, word};
 
 // How many records each region takes.
 #[derive(Clone, Copy)]
@@ -42,6 +40,21 @@ pub fn wide(x: u32) -> usize
     ensures { result ≡ x }
 {
     x as usize
+}
+
+// How many records a region has, by its number, and how many it takes.
+pub fn count(image: &[u32], region: usize) -> u32
+    requires { count_at region < length image.now }
+    ensures { result ≡ count image.now region }
+{
+    image[format::COUNT_AT + format::REGION_STEP * region]
+}
+
+pub fn capacity(image: &[u32], region: usize) -> u32
+    requires { capacity_at region < length image.now }
+    ensures { result ≡ capacity image.now region }
+{
+    image[format::CAPACITY_AT + format::REGION_STEP * region]
 }
 
 // The rest of the header: how many names there are, the functor word, the current level and the break.

@@ -12,7 +12,7 @@ ghost use Rattle.image.specs.Reading.{entries_taken, fields_taken, bounds_taken,
 ghost use Rattle.image.specs.Reading.{entries_lies, fields_lies, bounds_lies, visited_lies, pending_lies, equals_lies};
 ghost use Rattle.image.specs.Reading.{entries_read, fields_read, bounds_read, visited_read, pending_read, equals_read};
 
-use crate::{format, wide};
+use crate::{capacity, count, format, wide};
 
 // A region: its number, how wide its records are, and what the table has there: how many records, how many it takes, and the words of
 // each. Below `start`, what holds of the words.
@@ -209,19 +209,19 @@ impl Region for Equals {
     ghost read = { equals_read };
 }
 
-// How many records a region has, and how many it takes.
-pub fn count<R: Region>(image: &[u32]) -> u32
+// How many records the table has in a region, and how many it takes.
+pub fn records<R: Region>(image: &[u32]) -> u32
     requires { Laid image.now }
     ensures { result ≡ R.many image.now }
 {
-    image[format::COUNT_AT + format::REGION_STEP * R::NUMBER]
+    count(image, R::NUMBER)
 }
 
-pub fn capacity<R: Region>(image: &[u32]) -> u32
+pub fn room<R: Region>(image: &[u32]) -> u32
     requires { Laid image.now }
     ensures { result ≡ R.room image.now }
 {
-    image[format::CAPACITY_AT + format::REGION_STEP * R::NUMBER]
+    capacity(image, R::NUMBER)
 }
 
 // Word j of record i of a region.

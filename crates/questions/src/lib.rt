@@ -36,13 +36,13 @@ fn room_for(image: &[u32], q: Question) -> Result<(), Refusal>
     requires { T (well_formed image.now) }
     ensures { Roomy image.now q result }
 {
-    if image::capacity::<Pending>(image) < pairs_of(q) {
+    if image::room::<Pending>(image) < pairs_of(q) {
         return Err(Refusal::NoRoom(image::format::PENDING));
     }
     if !is_recorded(q) {
         return Ok(());
     }
-    if image::capacity::<Equals>(image) <= image::count::<Equals>(image) {
+    if image::room::<Equals>(image) <= image::records::<Equals>(image) {
         return Err(Refusal::NoRoom(image::format::EQUALS));
     }
     Ok(())
@@ -68,10 +68,10 @@ fn fitness(image: &[u32], q: Question) -> Result<(), Refusal>
             name,
         });
     }
-    if image::count::<Entries>(image) <= q.left {
+    if image::records::<Entries>(image) <= q.left {
         return Err(Refusal::BadNumber);
     }
-    if image::count::<Entries>(image) <= q.right {
+    if image::records::<Entries>(image) <= q.right {
         return Err(Refusal::BadNumber);
     }
     room_for(image, q)
@@ -124,7 +124,7 @@ fn instalment(image: &mut [u32], budget: u32) -> Instalment
     ensures image_after { image.new ≡ (worked image.old budget).words }
 {
     let mut steps: u32 = 0;
-    while 0 < image::count::<Pending>(image) {
+    while 0 < image::records::<Pending>(image) {
         if steps == budget {
             return Instalment {
                 answer: Ok(Answer::More),

@@ -17,7 +17,7 @@ pub fn entry_in(image: &[u32], n: u32) -> Result<Entry, Refusal>
     requires { T (well_formed image.now) }
     ensures { told_entry_read result ≡ (response_of image.now (read_entry_turn n (table image.now))).says }
 {
-    if image::count::<Entries>(image) <= n {
+    if image::records::<Entries>(image) <= n {
         return Err(Refusal::BadNumber);
     }
     Ok(image::entry(image, n))
@@ -44,7 +44,7 @@ fn entry_record(image: &[u32], n: u32) -> Result<Record, Refusal>
     requires { T (well_formed image.now) }
     ensures { told_record result ≡ (response_of image.now (read_record_turn 1 n image.now)).says }
 {
-    if image::count::<Entries>(image) <= n {
+    if image::records::<Entries>(image) <= n {
         return Err(Refusal::BadNumber);
     }
     let kind = image::word::<Entries>(image, n, image::format::KIND_WORD);
@@ -70,7 +70,7 @@ fn field_record(image: &[u32], n: u32) -> Result<Record, Refusal>
     requires { T (well_formed image.now) }
     ensures { told_record result ≡ (response_of image.now (read_record_turn 2 n image.now)).says }
 {
-    if image::count::<Fields>(image) <= n {
+    if image::records::<Fields>(image) <= n {
         return Err(Refusal::BadNumber);
     }
     let name = image::word::<Fields>(image, n, image::format::NAME_WORD);
@@ -88,7 +88,7 @@ fn bound_record(image: &[u32], n: u32) -> Result<Record, Refusal>
     requires { T (well_formed image.now) }
     ensures { told_record result ≡ (response_of image.now (read_record_turn 3 n image.now)).says }
 {
-    if image::count::<Bounds>(image) <= n {
+    if image::records::<Bounds>(image) <= n {
         return Err(Refusal::BadNumber);
     }
     let variable = image::word::<Bounds>(image, n, image::format::VARIABLE_WORD);
@@ -106,7 +106,7 @@ fn visited_record(image: &[u32], n: u32) -> Result<Record, Refusal>
     requires { T (well_formed image.now) }
     ensures { told_record result ≡ (response_of image.now (read_record_turn 4 n image.now)).says }
 {
-    if image::count::<Visited>(image) <= n {
+    if image::records::<Visited>(image) <= n {
         return Err(Refusal::BadNumber);
     }
     let sub = image::word::<Visited>(image, n, image::format::VISITED_SUB_WORD);
@@ -119,7 +119,7 @@ fn pending_record(image: &[u32], n: u32) -> Result<Record, Refusal>
     requires { T (well_formed image.now) }
     ensures { told_record result ≡ (response_of image.now (read_record_turn 5 n image.now)).says }
 {
-    if image::count::<Pending>(image) <= n {
+    if image::records::<Pending>(image) <= n {
         return Err(Refusal::BadNumber);
     }
     let sub = image::word::<Pending>(image, n, image::format::PENDING_SUB_WORD);
@@ -132,7 +132,7 @@ fn equal_record(image: &[u32], n: u32) -> Result<Record, Refusal>
     requires { T (well_formed image.now) }
     ensures { told_record result ≡ (response_of image.now (read_record_turn 6 n image.now)).says }
 {
-    if image::count::<Equals>(image) <= n {
+    if image::records::<Equals>(image) <= n {
         return Err(Refusal::BadNumber);
     }
     let left = image::word::<Equals>(image, n, image::format::EQUAL_LEFT_WORD);
@@ -145,10 +145,10 @@ pub fn disjoint_in(image: &[u32], a: u32, b: u32) -> Result<bool, Refusal>
     requires { T (well_formed image.now) }
     ensures { told_disjointness result ≡ (response_of image.now (read_disjoint_turn a b (table image.now))).says }
 {
-    if image::count::<Entries>(image) <= a {
+    if image::records::<Entries>(image) <= a {
         return Err(Refusal::BadNumber);
     }
-    if image::count::<Entries>(image) <= b {
+    if image::records::<Entries>(image) <= b {
         return Err(Refusal::BadNumber);
     }
     if disjoint::are_types_disjoint(image, a, b) {

@@ -104,7 +104,7 @@ pub fn put_bound_pairs(image: &mut [u32], v: u32, side: u32, b: u32)
     requires side_len_bound { length (pending_in image.old) + length (bounds_in (bounds_all image.old) v side) ≤ (store_of image.old).capacities.pending }
     ensures { Midway image.new (pending_to image.old (pending_in image.old ++ reverse (map (bound_pair side b) (bounds_in (bounds_all image.old) v side)))) }
 {
-    let n = image::count::<Bounds>(image);
+    let n = image::records::<Bounds>(image);
     for i in (0..n).rev() {
         if storage::belongs(image, i, v, side) {
             let x = image::word::<Bounds>(image, i, image::format::BOUND_WORD);

@@ -60,11 +60,11 @@ fn room_for(image: &[u32], more: u32) -> Result<(), Refusal>
     requires nonzero { 0 < length (pending_in image.now) }
     ensures { RoomFor image.now (store_of image.now) more result }
 {
-    if image::capacity::<Visited>(image) <= image::count::<Visited>(image) {
+    if image::room::<Visited>(image) <= image::records::<Visited>(image) {
         return Err(Refusal::NoRoom(image::format::VISITED));
     }
-    let others = image::count::<Pending>(image) - 1;
-    if image::capacity::<Pending>(image) - others < more {
+    let others = image::records::<Pending>(image) - 1;
+    if image::room::<Pending>(image) - others < more {
         return Err(Refusal::NoRoom(image::format::PENDING));
     }
     Ok(())
@@ -133,8 +133,8 @@ fn make_target(image: &mut [u32], sup: u32, d: u32) -> Option<u32>
     if disjoint::union_contains_member(image, sup, n) {
         return Some(sup);
     }
-    let number = image::count::<Entries>(image);
-    if image::capacity::<Entries>(image) <= number {
+    let number = image::records::<Entries>(image);
+    if image::room::<Entries>(image) <= number {
         return None;
     }
     let spread = 1
@@ -151,7 +151,7 @@ fn is_deep(image: &[u32], old: u32) -> bool
     requires shallow { Shallow (take old (entries_of image.now)) }
     ensures { result ≡ too_deep (entries_of image.now) }
 {
-    for i in old..image::count::<Entries>(image) {
+    for i in old..image::records::<Entries>(image) {
         if image::format::SPREAD_MOST
             < image::word::<Entries>(image, i, image::format::SPREAD_WORD)
         {
@@ -177,7 +177,7 @@ fn settle(
     ensures value { result ≡ (settled image.old old (sub ⊑ sup) (c ⊑ target)).says }
     ensures image_after { image.new ≡ (settled image.old old (sub ⊑ sup) (c ⊑ target)).words }
 {
-    if image::capacity::<Visited>(image) <= image::count::<Visited>(image) {
+    if image::room::<Visited>(image) <= image::records::<Visited>(image) {
         type_table::undo(image, old);
         return Err(Refusal::NoRoom(image::format::VISITED));
     }
@@ -200,7 +200,7 @@ fn follow_isolated(image: &mut [u32], sub: u32, sup: u32, c: u32, d: u32) -> Res
     ensures value { result ≡ (taken image.old (outcome_for (store_of image.old) (sub ⊑ sup) (Isolate c d))).says }
     ensures image_after { image.new ≡ (taken image.old (outcome_for (store_of image.old) (sub ⊑ sup) (Isolate c d))).words }
 {
-    let old = image::count::<Entries>(image);
+    let old = image::records::<Entries>(image);
     let Some(target) = make_target(image, sup, d) else {
         type_table::undo(image, old);
         return Err(Refusal::NoRoom(image::format::ENTRIES)); // however deep it would go
@@ -222,9 +222,9 @@ fn follow_functor(
     ensures value { result ≡ (taken image.old (outcome_for (store_of image.old) (sub ⊑ sup) (Functor f param body))).says }
     ensures image_after { image.new ≡ (taken image.old (outcome_for (store_of image.old) (sub ⊑ sup) (Functor f param body))).words }
 {
-    let old = image::count::<Entries>(image);
+    let old = image::records::<Entries>(image);
     let needed = 2;
-    if image::capacity::<Entries>(image) - old < needed {
+    if image::room::<Entries>(image) - old < needed {
         return Err(Refusal::NoRoom(image::format::ENTRIES));
     }
     writes::push_entry(image, image::format::LAMBDA, param, body, 0, 0, 1);
@@ -241,7 +241,7 @@ fn room_for_bound(image: &[u32], repeated: bool, more: u32) -> Result<(), Refusa
     if repeated {
         return room_for(image, more);
     }
-    if image::capacity::<Bounds>(image) <= image::count::<Bounds>(image) {
+    if image::room::<Bounds>(image) <= image::records::<Bounds>(image) {
         return Err(Refusal::NoRoom(image::format::BOUNDS));
     }
     room_for(image, more)
@@ -295,7 +295,7 @@ fn join_bounds(
     ensures image_after { image.new ≡ (taken image.old (outcome_of (visit (sub ⊑ sup) (store_of image.old)) (sub ⊑ sup) (join_bounds (graph_in image.old) v side b))).words }
 {
     let other = image::format::UPPER - side;
-    let n = image::count::<Bounds>(image);
+    let n = image::records::<Bounds>(image);
     let repeated = storage::repeats_bound(image, n, v, side, b);
     let more = storage::count_bounds(image, n, v, other);
     room_for_bound(image, repeated, more)?;
@@ -335,7 +335,7 @@ pub fn take_step(image: &mut [u32]) -> Result<Step, Refusal>
     ensures value { result ≡ (taken image.old (rule (store_of image.old) (last_pair image.old))).says }
     ensures image_after { image.new ≡ (taken image.old (rule (store_of image.old) (last_pair image.old))).words }
 {
-    let last = image::count::<Pending>(image) - 1;
+    let last = image::records::<Pending>(image) - 1;
     let sub = image::word::<Pending>(image, last, image::format::PENDING_SUB_WORD);
     let sup = image::word::<Pending>(image, last, image::format::PENDING_SUP_WORD);
     if sub == sup {

@@ -96,11 +96,11 @@ pub fn put_bound(image: &mut [u32], v: u32, side: u32, b: u32) -> Result<(), Ref
     ensures result_value { told_reply result ≡ (bound_response image.old v side b).says }
     ensures image_after { image.new ≡ (bound_response image.old v side b).words }
 {
-    let n = image::count::<Bounds>(image);
+    let n = image::records::<Bounds>(image);
     if repeats_bound(image, n, v, side, b) {
         return Ok(());
     }
-    if image::capacity::<Bounds>(image) <= n {
+    if image::room::<Bounds>(image) <= n {
         return Err(Refusal::NoRoom(image::format::BOUNDS));
     }
     writes::push_bound(image, v, side, b);

@@ -40,8 +40,8 @@ pub fn make(image: &mut [u32], kind: u32, x: u32, y: u32) -> Result<u32, Refusal
     ensures result_value { told_made result ≡ (made_response image.old (new_entry (entries_of image.old) kind x y)).says }
     ensures image_after { image.new ≡ (made_response image.old (new_entry (entries_of image.old) kind x y)).words }
 {
-    let number = image::count::<Entries>(image);
-    if image::capacity::<Entries>(image) <= number {
+    let number = image::records::<Entries>(image);
+    if image::room::<Entries>(image) <= number {
         return Err(Refusal::NoRoom(image::format::ENTRIES));
     }
     let spread = spread_of(image, kind, x, y);
@@ -58,8 +58,8 @@ fn add(image: &mut [u32], kind: u32, x: u32, y: u32, spread: u32, n: u32) -> Opt
     requires n_in_bounds { n < length (entries_of image.old) }
     ensures { Added (table image.old) kind x y spread n result image.new }
 {
-    let number = image::count::<Entries>(image);
-    if image::capacity::<Entries>(image) <= number {
+    let number = image::records::<Entries>(image);
+    if image::room::<Entries>(image) <= number {
         return None;
     }
     writes::push_entry(image, kind, x, y, 0, 0, spread);
@@ -73,7 +73,7 @@ fn pop_to(image: &mut [u32], old: u32)
     requires in_bounds { old ≤ length (entries_of image.old) }
     ensures { Shows image.new (entries_to image.old (take old (entries_of image.old))) }
 {
-    while old < image::count::<Entries>(image) {
+    while old < image::records::<Entries>(image) {
         writes::pop_entry(image);
     }
 }
@@ -134,7 +134,7 @@ pub fn make_neg(image: &mut [u32], n: u32) -> Result<u32, Refusal>
     ensures result_value { told_made result ≡ (made_response image.old (make_neg (entries_of image.old) n)).says }
     ensures image_after { image.new ≡ (made_response image.old (make_neg (entries_of image.old) n)).words }
 {
-    let old = image::count::<Entries>(image);
+    let old = image::records::<Entries>(image);
     let Some(k) = negate(image, n) else {
         undo(image, old);
         return Err(Refusal::NoRoom(image::format::ENTRIES)); // however deep it would go
@@ -211,12 +211,12 @@ pub fn make_attrset(
     ensures result_value { told_made result ≡ (attrset_response image.old fields.now is_open dynamic).says }
     ensures image_after { image.new ≡ (attrset_response image.old fields.now is_open dynamic).words }
 {
-    let number = image::count::<Entries>(image);
-    if image::capacity::<Entries>(image) <= number {
+    let number = image::records::<Entries>(image);
+    if image::room::<Entries>(image) <= number {
         return Err(Refusal::NoRoom(image::format::ENTRIES));
     }
-    let old = image::count::<Fields>(image);
-    let room = image::capacity::<Fields>(image) - old;
+    let old = image::records::<Fields>(image);
+    let room = image::room::<Fields>(image) - old;
     let n = fields.len() / image::format::FIELD_WIDTH;
     if wide(room) < n {
         return Err(Refusal::NoRoom(image::format::FIELDS));

@@ -25,15 +25,15 @@ returns-then-not-listed c =
     _ c.name_count.ensures (sym c.listed.ensures ∙ c.if-not-listed.true) in
     record { result_value = k.says; image_after = k.leaves }
 
-pub count-requires : goal.count-requires
-count-requires c = formed_laid _ c.requires
+pub records-requires : goal.records-requires
+records-requires c = formed_laid _ c.requires
 
 pub returns-then-not-known : goal.returns-then-not-known
 returns-then-not-known c =
     let a = c.args in
     let k = bad_entry a.image.now a.fields.now a.is_open a.dynamic (sym c.is_asked.ensures ∙ c.if-is_asked.false)
     _ c.name_count.ensures (sym c.listed.ensures ∙ c.if-not-listed.false)
-    _ c.count.ensures (sym c.known.ensures ∙ c.if-not-known.true) in
+    _ c.records.ensures (sym c.known.ensures ∙ c.if-not-known.true) in
     record { result_value = k.says; image_after = k.leaves }
 
 pub returns-then-not-dynamic_known : goal.returns-then-not-dynamic_known
@@ -41,7 +41,7 @@ returns-then-not-dynamic_known c =
     let a = c.args in
     let k = bad_dynamic a.image.now a.fields.now a.is_open a.dynamic (sym c.is_asked.ensures ∙ c.if-is_asked.false)
     _ c.name_count.ensures (sym c.listed.ensures ∙ c.if-not-listed.false)
-    _ c.count.ensures (sym c.dynamic_known.ensures ∙ c.if-not-dynamic_known.true) in
+    _ c.records.ensures (sym c.dynamic_known.ensures ∙ c.if-not-dynamic_known.true) in
     record { result_value = k.says; image_after = k.leaves }
 
 pub returns : goal.returns
@@ -49,6 +49,6 @@ returns c =
     let a = c.args in
     let k = good_fields a.image.now a.fields.now a.is_open a.dynamic (sym c.is_asked.ensures ∙ c.if-is_asked.false)
     _ c.name_count.ensures (sym c.listed.ensures ∙ c.if-not-listed.false)
-    _ c.count.ensures (sym c.known.ensures ∙ c.if-not-known.false) (sym c.dynamic_known.ensures ∙ c.if-not-dynamic_known.false)
+    _ c.records.ensures (sym c.known.ensures ∙ c.if-not-known.false) (sym c.dynamic_known.ensures ∙ c.if-not-dynamic_known.false)
     (record { says = c.make_attrset.ensures.result_value; leaves = c.make_attrset.ensures.image_after }) in
     record { result_value = k.says; image_after = k.leaves }

@@ -19,14 +19,14 @@ returns-then-is_asked c =
     let k = busy c.args.image.now _ (sym c.is_asked.ensures ∙ c.if-is_asked.true) in
     record { result_value = k.says; image_after = k.leaves }
 
-pub count-requires : goal.count-requires
-count-requires c = formed_laid _ c.requires
+pub records-requires : goal.records-requires
+records-requires c = formed_laid _ c.requires
 
-pub returns-then-count-v : goal.returns-then-count-v
+pub returns-then-records-v : goal.returns-then-records-v
 unfolding put_bound_turn
-returns-then-count-v c =
+returns-then-records-v c =
     let w = c.args.image.now in
-    let k = idle w _ (sym c.is_asked.ensures ∙ c.if-is_asked.false) (stopped w BadNumber _ (bound_numbered (entries_of w) c.args.v c.args.side c.args.b) (no_bounded (entries_of w) c.args.v c.args.side c.args.b (omega (arith, c.count.ensures)))) in
+    let k = idle w _ (sym c.is_asked.ensures ∙ c.if-is_asked.false) (stopped w BadNumber _ (bound_numbered (entries_of w) c.args.v c.args.side c.args.b) (no_bounded (entries_of w) c.args.v c.args.side c.args.b (omega (arith, c.records.ensures)))) in
     record { result_value = k.says; image_after = k.leaves }
 
 pub returns-then-side-gt-UPPER : goal.returns-then-side-gt-UPPER
@@ -36,14 +36,14 @@ returns-then-side-gt-UPPER c =
     let k = idle w _ (sym c.is_asked.ensures ∙ c.if-is_asked.false) (stopped w BadNumber _ (bound_numbered (entries_of w) c.args.v c.args.side c.args.b) (no_side (entries_of w) c.args.v c.args.side c.args.b (omega arith))) in
     record { result_value = k.says; image_after = k.leaves }
 
-pub count-requires-2 : goal.count-requires-2
-count-requires-2 c = formed_laid _ c.requires
+pub records-requires-2 : goal.records-requires-2
+records-requires-2 c = formed_laid _ c.requires
 
-pub returns-then-count-b : goal.returns-then-count-b
+pub returns-then-records-b : goal.returns-then-records-b
 unfolding put_bound_turn
-returns-then-count-b c =
+returns-then-records-b c =
     let w = c.args.image.now in
-    let k = idle w _ (sym c.is_asked.ensures ∙ c.if-is_asked.false) (stopped w BadNumber _ (bound_numbered (entries_of w) c.args.v c.args.side c.args.b) (no_bound (entries_of w) c.args.v c.args.side c.args.b (omega (arith, c.count-2.ensures)))) in
+    let k = idle w _ (sym c.is_asked.ensures ∙ c.if-is_asked.false) (stopped w BadNumber _ (bound_numbered (entries_of w) c.args.v c.args.side c.args.b) (no_bound (entries_of w) c.args.v c.args.side c.args.b (omega (arith, c.records-2.ensures)))) in
     record { result_value = k.says; image_after = k.leaves }
 
 pub word-requires-clause-laid : goal.word-requires-clause-laid
@@ -54,7 +54,7 @@ unfolding put_bound_turn
 returns-then-word-ne-VARIABLE c =
     let w = c.args.image.now in
     let k = idle w _ (sym c.is_asked.ensures ∙ c.if-is_asked.false)
-    (gone_on w BadNumber _ (bound_numbered (entries_of w) c.args.v c.args.side c.args.b) (bound_numbered_lem (entries_of w) c.args.v c.args.side c.args.b (omega (arith, c.count.ensures)) (omega arith) (omega (arith, c.count-2.ensures)))
+    (gone_on w BadNumber _ (bound_numbered (entries_of w) c.args.v c.args.side c.args.b) (bound_numbered_lem (entries_of w) c.args.v c.args.side c.args.b (omega (arith, c.records.ensures)) (omega arith) (omega (arith, c.records-2.ensures)))
     (stopped w NotAVariable _ (is_at (entries_of w) variable c.args.v) (kind_other (entries_of w) c.args.v c.args.side c.args.b (λ e. c.if-word-ne-VARIABLE.true (c.word.ensures ∙ e))))) in
     record { result_value = k.says; image_after = k.leaves }
 
@@ -63,7 +63,7 @@ unfolding put_bound_turn
 returns c =
     let w = c.args.image.now in
     let k = idle w _ (sym c.is_asked.ensures ∙ c.if-is_asked.false)
-    (gone_on w BadNumber _ (bound_numbered (entries_of w) c.args.v c.args.side c.args.b) (bound_numbered_lem (entries_of w) c.args.v c.args.side c.args.b (omega (arith, c.count.ensures)) (omega arith) (omega (arith, c.count-2.ensures)))
+    (gone_on w BadNumber _ (bound_numbered (entries_of w) c.args.v c.args.side c.args.b) (bound_numbered_lem (entries_of w) c.args.v c.args.side c.args.b (omega (arith, c.records.ensures)) (omega arith) (omega (arith, c.records-2.ensures)))
     (gone_on w NotAVariable _ (is_at (entries_of w) variable c.args.v) (kind_variable (entries_of w) c.args.v c.args.side c.args.b (sym c.word.ensures ∙ c.if-word-ne-VARIABLE.false))
     (record { says = c.put_bound.ensures.result_value; leaves = c.put_bound.ensures.image_after }))) in
     record { result_value = k.says; image_after = k.leaves }

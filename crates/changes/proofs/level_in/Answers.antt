@@ -20,14 +20,14 @@ returns-then-is_asked c =
     let k = busy c.args.image.now _ (sym c.is_asked.ensures ∙ c.if-is_asked.true) in
     record { result_value = k.says; image_after = k.leaves }
 
-pub count-requires : goal.count-requires
-count-requires c = formed_laid _ c.requires
+pub records-requires : goal.records-requires
+records-requires c = formed_laid _ c.requires
 
-pub returns-then-count-v : goal.returns-then-count-v
+pub returns-then-records-v : goal.returns-then-records-v
 unfolding set_level_turn
-returns-then-count-v c =
+returns-then-records-v c =
     let w = c.args.image.now in
-    let k = idle w _ (sym c.is_asked.ensures ∙ c.if-is_asked.false) (stopped w BadNumber _ (is_entry (entries_of w) c.args.v) (no_entry (entries_of w) c.args.v (omega (arith, c.count.ensures)))) in
+    let k = idle w _ (sym c.is_asked.ensures ∙ c.if-is_asked.false) (stopped w BadNumber _ (is_entry (entries_of w) c.args.v) (no_entry (entries_of w) c.args.v (omega (arith, c.records.ensures)))) in
     record { result_value = k.says; image_after = k.leaves }
 
 pub word-requires-clause-laid : goal.word-requires-clause-laid
@@ -38,7 +38,7 @@ unfolding set_level_turn
 returns-then-word-ne-VARIABLE c =
     let w = c.args.image.now in
     let k = idle w _ (sym c.is_asked.ensures ∙ c.if-is_asked.false)
-    (gone_on w BadNumber _ (is_entry (entries_of w) c.args.v) (an_entry (entries_of w) c.args.v (omega (arith, c.count.ensures)))
+    (gone_on w BadNumber _ (is_entry (entries_of w) c.args.v) (an_entry (entries_of w) c.args.v (omega (arith, c.records.ensures)))
     (stopped w NotAVariable _ (is_at (entries_of w) variable c.args.v) (kind_other (entries_of w) c.args.v 0 0 (λ e. c.if-word-ne-VARIABLE.true (c.word.ensures ∙ e))))) in
     record { result_value = k.says; image_after = k.leaves }
 
@@ -50,7 +50,7 @@ unfolding set_level_turn
 returns c =
     let w = c.args.image.now in
     let k = idle w _ (sym c.is_asked.ensures ∙ c.if-is_asked.false)
-    (gone_on w BadNumber _ (is_entry (entries_of w) c.args.v) (an_entry (entries_of w) c.args.v (omega (arith, c.count.ensures)))
+    (gone_on w BadNumber _ (is_entry (entries_of w) c.args.v) (an_entry (entries_of w) c.args.v (omega (arith, c.records.ensures)))
     (gone_on w NotAVariable _ (is_at (entries_of w) variable c.args.v) (kind_variable (entries_of w) c.args.v 0 0 (sym c.word.ensures ∙ c.if-word-ne-VARIABLE.false))
     (left_as w _ _ c.set_var_level.ensures))) in
     record { result_value = k.says; image_after = k.leaves }

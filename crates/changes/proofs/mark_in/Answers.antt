@@ -18,14 +18,14 @@ returns-then-is_asked c =
     let k = busy c.args.image.now _ (sym c.is_asked.ensures ∙ c.if-is_asked.true) in
     record { result_value = k.says; image_after = k.leaves }
 
-pub count-requires : goal.count-requires
-count-requires c = formed_laid _ c.requires
+pub records-requires : goal.records-requires
+records-requires c = formed_laid _ c.requires
 
-pub returns-then-count-n : goal.returns-then-count-n
+pub returns-then-records-n : goal.returns-then-records-n
 unfolding mark_turn
-returns-then-count-n c =
+returns-then-records-n c =
     let w = c.args.image.now in
-    let k = idle w _ (sym c.is_asked.ensures ∙ c.if-is_asked.false) (stopped w BadNumber _ (is_entry (entries_of w) c.args.n) (no_entry (entries_of w) c.args.n (omega (arith, c.count.ensures)))) in
+    let k = idle w _ (sym c.is_asked.ensures ∙ c.if-is_asked.false) (stopped w BadNumber _ (is_entry (entries_of w) c.args.n) (no_entry (entries_of w) c.args.n (omega (arith, c.records.ensures)))) in
     record { result_value = k.says; image_after = k.leaves }
 
 pub mark-requires-clause-shown : goal.mark-requires-clause-shown
@@ -36,6 +36,6 @@ unfolding mark_turn
 returns c =
     let w = c.args.image.now in
     let k = idle w _ (sym c.is_asked.ensures ∙ c.if-is_asked.false)
-    (gone_on w BadNumber _ (is_entry (entries_of w) c.args.n) (an_entry (entries_of w) c.args.n (omega (arith, c.count.ensures)))
+    (gone_on w BadNumber _ (is_entry (entries_of w) c.args.n) (an_entry (entries_of w) c.args.n (omega (arith, c.records.ensures)))
     (left_as w _ _ c.mark.ensures)) in
     record { result_value = k.says; image_after = k.leaves }

@@ -18,15 +18,15 @@ returns-then-is_asked c =
     let k = busy c.args.image.now _ (sym c.is_asked.ensures ∙ c.if-is_asked.true) in
     record { result_value = k.says; image_after = k.leaves }
 
-pub count-requires : goal.count-requires
-count-requires c = formed_laid _ c.requires.t
+pub records-requires : goal.records-requires
+records-requires c = formed_laid _ c.requires.t
 
-pub returns-then-count-x : goal.returns-then-count-x
+pub returns-then-records-x : goal.returns-then-records-x
 unfolding one_turn
-returns-then-count-x c =
+returns-then-records-x c =
     let w = c.args.image.now in
     let k = idle w _ (sym c.is_asked.ensures ∙ c.if-is_asked.false)
-    (stopped w BadNumber _ (is_entry (entries_of w) c.args.x) (no_entry (entries_of w) c.args.x (omega (arith, c.count.ensures)))) in
+    (stopped w BadNumber _ (is_entry (entries_of w) c.args.x) (no_entry (entries_of w) c.args.x (omega (arith, c.records.ensures)))) in
     record { result_value = k.says; image_after = k.leaves }
 
 pub returns : goal.returns
@@ -34,6 +34,6 @@ unfolding one_turn new_turn
 returns c =
     let w = c.args.image.now in
     let k = idle w _ (sym c.is_asked.ensures ∙ c.if-is_asked.false)
-    (gone_on w BadNumber _ (is_entry (entries_of w) c.args.x) (an_entry (entries_of w) c.args.x (omega (arith, c.count.ensures)))
+    (gone_on w BadNumber _ (is_entry (entries_of w) c.args.x) (an_entry (entries_of w) c.args.x (omega (arith, c.records.ensures)))
     (record { says = c.make.ensures.result_value; leaves = c.make.ensures.image_after })) in
     record { result_value = k.says; image_after = k.leaves }

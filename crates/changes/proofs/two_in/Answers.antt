@@ -19,26 +19,26 @@ returns-then-is_asked c =
     let k = busy c.args.image.now _ (sym c.is_asked.ensures ∙ c.if-is_asked.true) in
     record { result_value = k.says; image_after = k.leaves }
 
-pub count-requires : goal.count-requires
-count-requires c = formed_laid _ c.requires
+pub records-requires : goal.records-requires
+records-requires c = formed_laid _ c.requires
 
-pub returns-then-count-x : goal.returns-then-count-x
+pub returns-then-records-x : goal.returns-then-records-x
 unfolding two_turn
-returns-then-count-x c =
+returns-then-records-x c =
     let w = c.args.image.now in
     let k = idle w _ (sym c.is_asked.ensures ∙ c.if-is_asked.false)
-    (stopped w BadNumber _ (is_entry (entries_of w) c.args.x && is_entry (entries_of w) c.args.y) (first_no_entry (entries_of w) c.args.x c.args.y (omega (arith, c.count.ensures)))) in
+    (stopped w BadNumber _ (is_entry (entries_of w) c.args.x && is_entry (entries_of w) c.args.y) (first_no_entry (entries_of w) c.args.x c.args.y (omega (arith, c.records.ensures)))) in
     record { result_value = k.says; image_after = k.leaves }
 
-pub count-requires-2 : goal.count-requires-2
-count-requires-2 c = formed_laid _ c.requires
+pub records-requires-2 : goal.records-requires-2
+records-requires-2 c = formed_laid _ c.requires
 
-pub returns-then-count-y : goal.returns-then-count-y
+pub returns-then-records-y : goal.returns-then-records-y
 unfolding two_turn
-returns-then-count-y c =
+returns-then-records-y c =
     let w = c.args.image.now in
     let k = idle w _ (sym c.is_asked.ensures ∙ c.if-is_asked.false)
-    (stopped w BadNumber _ (is_entry (entries_of w) c.args.x && is_entry (entries_of w) c.args.y) (second_no_entry (entries_of w) c.args.x c.args.y (omega (arith, c.count-2.ensures)))) in
+    (stopped w BadNumber _ (is_entry (entries_of w) c.args.x && is_entry (entries_of w) c.args.y) (second_no_entry (entries_of w) c.args.x c.args.y (omega (arith, c.records-2.ensures)))) in
     record { result_value = k.says; image_after = k.leaves }
 
 pub returns : goal.returns
@@ -46,6 +46,6 @@ unfolding two_turn new_turn
 returns c =
     let w = c.args.image.now in
     let k = idle w _ (sym c.is_asked.ensures ∙ c.if-is_asked.false)
-    (gone_on w BadNumber _ (is_entry (entries_of w) c.args.x && is_entry (entries_of w) c.args.y) (two_entries (entries_of w) c.args.x c.args.y (omega (arith, c.count.ensures)) (omega (arith, c.count-2.ensures)))
+    (gone_on w BadNumber _ (is_entry (entries_of w) c.args.x && is_entry (entries_of w) c.args.y) (two_entries (entries_of w) c.args.x c.args.y (omega (arith, c.records.ensures)) (omega (arith, c.records-2.ensures)))
     (record { says = c.make.ensures.result_value; leaves = c.make.ensures.image_after })) in
     record { result_value = k.says; image_after = k.leaves }

@@ -27,17 +27,17 @@ break_name-name-requires c = formed_laid _ c.requires
 pub returns-then-q-kind : goal.returns-then-q-kind
 returns-then-q-kind c = held_broken _ c.args.q (sym c.is_asked.ensures ∙ c.if-is_asked.false) (is_broken_lem c.args.q.held _ _ (store_of c.args.image.now) c.break_kind-kind.ensures c.if-q-kind.true) _ _ _ _ c.break_kind-kind.ensures c.break_sub-sub.ensures c.break_sup-sup.ensures c.break_name-name.ensures
 
-pub count-requires : goal.count-requires
-count-requires c = formed_laid _ c.requires
+pub records-requires : goal.records-requires
+records-requires c = formed_laid _ c.requires
 
-pub returns-then-count-q : goal.returns-then-count-q
-returns-then-count-q c = no_first _ c.args.q (sym c.is_asked.ensures ∙ c.if-is_asked.false) (is_broken_lem c.args.q.held _ _ (store_of c.args.image.now) c.break_kind-kind.ensures c.if-q-kind.false) (omega (arith, c.if-count-q.true, c.count.ensures))
+pub returns-then-records-q : goal.returns-then-records-q
+returns-then-records-q c = no_first _ c.args.q (sym c.is_asked.ensures ∙ c.if-is_asked.false) (is_broken_lem c.args.q.held _ _ (store_of c.args.image.now) c.break_kind-kind.ensures c.if-q-kind.false) (omega (arith, c.if-records-q.true, c.records.ensures))
 
-pub count-requires-2 : goal.count-requires-2
-count-requires-2 c = formed_laid _ c.requires
+pub records-requires-2 : goal.records-requires-2
+records-requires-2 c = formed_laid _ c.requires
 
-pub returns-then-count-q-2 : goal.returns-then-count-q-2
-returns-then-count-q-2 c = no_second _ c.args.q (sym c.is_asked.ensures ∙ c.if-is_asked.false) (is_broken_lem c.args.q.held _ _ (store_of c.args.image.now) c.break_kind-kind.ensures c.if-q-kind.false) (omega (arith, c.if-count-q-2.true, c.count-2.ensures))
+pub returns-then-records-q-2 : goal.returns-then-records-q-2
+returns-then-records-q-2 c = no_second _ c.args.q (sym c.is_asked.ensures ∙ c.if-is_asked.false) (is_broken_lem c.args.q.held _ _ (store_of c.args.image.now) c.break_kind-kind.ensures c.if-q-kind.false) (omega (arith, c.if-records-q-2.true, c.records-2.ensures))
 
 pub returns : goal.returns
-returns c = fit _ c.args.q (sym c.is_asked.ensures ∙ c.if-is_asked.false) (is_broken_lem c.args.q.held _ _ (store_of c.args.image.now) c.break_kind-kind.ensures c.if-q-kind.false) (omega (arith, c.if-count-q.false, c.count.ensures)) (omega (arith, c.if-count-q-2.false, c.count-2.ensures)) c.room_for.result c.room_for.ensures
+returns c = fit _ c.args.q (sym c.is_asked.ensures ∙ c.if-is_asked.false) (is_broken_lem c.args.q.held _ _ (store_of c.args.image.now) c.break_kind-kind.ensures c.if-q-kind.false) (omega (arith, c.if-records-q.false, c.records.ensures)) (omega (arith, c.if-records-q-2.false, c.records-2.ensures)) c.room_for.result c.room_for.ensures

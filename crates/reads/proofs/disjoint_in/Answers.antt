@@ -13,23 +13,23 @@ use Rattle.model.specs.declared.Refusal.TheVariants.{BadNumber}
 use Rattle.turns.proofs.Turning.{stopped, read_on, two_entries, first_no_entry, second_no_entry}
 use Rattle.reads.proofs.disjoint_in.Goals as goal
 
-pub count-requires : goal.count-requires
-count-requires c = formed_laid _ c.requires
+pub records-requires : goal.records-requires
+records-requires c = formed_laid _ c.requires
 
-pub returns-then-count-a : goal.returns-then-count-a
+pub returns-then-records-a : goal.returns-then-records-a
 unfolding read_disjoint_turn
-returns-then-count-a c =
+returns-then-records-a c =
     let w = c.args.image.now in
-    (stopped w BadNumber _ (is_entry (entries_of w) c.args.a && is_entry (entries_of w) c.args.b) (first_no_entry (entries_of w) c.args.a c.args.b (omega (arith, c.count.ensures)))).says
+    (stopped w BadNumber _ (is_entry (entries_of w) c.args.a && is_entry (entries_of w) c.args.b) (first_no_entry (entries_of w) c.args.a c.args.b (omega (arith, c.records.ensures)))).says
 
-pub count-requires-2 : goal.count-requires-2
-count-requires-2 c = formed_laid _ c.requires
+pub records-requires-2 : goal.records-requires-2
+records-requires-2 c = formed_laid _ c.requires
 
-pub returns-then-count-b : goal.returns-then-count-b
+pub returns-then-records-b : goal.returns-then-records-b
 unfolding read_disjoint_turn
-returns-then-count-b c =
+returns-then-records-b c =
     let w = c.args.image.now in
-    (stopped w BadNumber _ (is_entry (entries_of w) c.args.a && is_entry (entries_of w) c.args.b) (second_no_entry (entries_of w) c.args.a c.args.b (omega (arith, c.count-2.ensures)))).says
+    (stopped w BadNumber _ (is_entry (entries_of w) c.args.a && is_entry (entries_of w) c.args.b) (second_no_entry (entries_of w) c.args.a c.args.b (omega (arith, c.records-2.ensures)))).says
 
 pub are_types_disjoint-requires-clause-laid : goal.are_types_disjoint-requires-clause-laid
 are_types_disjoint-requires-clause-laid c = formed_laid _ c.requires
@@ -43,7 +43,7 @@ returns-then-are_types_disjoint c =
     let w = c.args.image.now in
     let e : shapes.disjoint (graph_in w) (entry_at (entries_of w) c.args.a) (entry_at (entries_of w) c.args.b) ≡ true = sym c.are_types_disjoint.ensures ∙ c.if-are_types_disjoint.true in
     read_on w BadNumber _ (is_entry (entries_of w) c.args.a && is_entry (entries_of w) c.args.b)
-    (two_entries (entries_of w) c.args.a c.args.b (omega (arith, c.count.ensures)) (omega (arith, c.count-2.ensures)))
+    (two_entries (entries_of w) c.args.a c.args.b (omega (arith, c.records.ensures)) (omega (arith, c.records-2.ensures)))
     (rw e)
 
 pub returns-else-are_types_disjoint : goal.returns-else-are_types_disjoint
@@ -52,5 +52,5 @@ returns-else-are_types_disjoint c =
     let w = c.args.image.now in
     let e : shapes.disjoint (graph_in w) (entry_at (entries_of w) c.args.a) (entry_at (entries_of w) c.args.b) ≡ false = sym c.are_types_disjoint.ensures ∙ c.if-are_types_disjoint.false in
     read_on w BadNumber _ (is_entry (entries_of w) c.args.a && is_entry (entries_of w) c.args.b)
-    (two_entries (entries_of w) c.args.a c.args.b (omega (arith, c.count.ensures)) (omega (arith, c.count-2.ensures)))
+    (two_entries (entries_of w) c.args.a c.args.b (omega (arith, c.records.ensures)) (omega (arith, c.records-2.ensures)))
     (rw e)

@@ -18,14 +18,14 @@ use Rattle.turns.proofs.Turning.{stopped, read_on}
 use Rattle.reads.proofs.Records.{no_record, a_record, record_words}
 use Rattle.reads.proofs.entry_record.Goals as goal
 
-pub count-requires : goal.count-requires
-count-requires c = formed_laid _ c.requires
+pub records-requires : goal.records-requires
+records-requires c = formed_laid _ c.requires
 
-pub returns-then-count-n : goal.returns-then-count-n
+pub returns-then-records-n : goal.returns-then-records-n
 unfolding read_record_turn
-returns-then-count-n c =
+returns-then-records-n c =
     let w = c.args.image.now in
-    (stopped w BadNumber _ (is_region 1 && ltb c.args.n (count w 1)) (no_record w 1 c.args.n (omega (arith, c.count.ensures, entries-are w)))).says
+    (stopped w BadNumber _ (is_region 1 && ltb c.args.n (count w 1)) (no_record w 1 c.args.n (omega (arith, c.records.ensures, entries-are w)))).says
 
 pub word-kind-requires-clause-laid : goal.word-kind-requires-clause-laid
 word-kind-requires-clause-laid c = formed_laid _ c.requires
@@ -54,6 +54,6 @@ returns c =
     let w = c.args.image.now in
     let n = c.args.n in
     let l = formed_laid w c.requires in
-    let lt : n < count w 1 = omega (arith, c.count.ensures, entries-are w) in
+    let lt : n < count w 1 = omega (arith, c.records.ensures, entries-are w) in
     read_on w BadNumber _ (is_region 1 && ltb n (count w 1)) (a_record w 1 n refl lt)
     (rw (c.word-kind.ensures, c.word-x.ensures, c.word-y.ensures, c.word-z.ensures, c.word-flags.ensures, c.word-spread.ensures, c.word-negation.ensures) (ap (λ (x : List ℕ). done (1 ∷ x)) (record_words entry_coded w 1 n _ lt (omega arith))))

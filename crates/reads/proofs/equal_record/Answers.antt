@@ -18,14 +18,14 @@ use Rattle.turns.proofs.Turning.{stopped, read_on}
 use Rattle.reads.proofs.Records.{no_record, a_record, record_words}
 use Rattle.reads.proofs.equal_record.Goals as goal
 
-pub count-requires : goal.count-requires
-count-requires c = formed_laid _ c.requires
+pub records-requires : goal.records-requires
+records-requires c = formed_laid _ c.requires
 
-pub returns-then-count-n : goal.returns-then-count-n
+pub returns-then-records-n : goal.returns-then-records-n
 unfolding read_record_turn
-returns-then-count-n c =
+returns-then-records-n c =
     let w = c.args.image.now in
-    (stopped w BadNumber _ (is_region 6 && ltb c.args.n (count w 6)) (no_record w 6 c.args.n (omega (arith, c.count.ensures, equals-are w)))).says
+    (stopped w BadNumber _ (is_region 6 && ltb c.args.n (count w 6)) (no_record w 6 c.args.n (omega (arith, c.records.ensures, equals-are w)))).says
 
 pub word-left-requires-clause-laid : goal.word-left-requires-clause-laid
 word-left-requires-clause-laid c = formed_laid _ c.requires
@@ -39,6 +39,6 @@ returns c =
     let w = c.args.image.now in
     let n = c.args.n in
     let l = formed_laid w c.requires in
-    let lt : n < count w 6 = omega (arith, c.count.ensures, equals-are w) in
+    let lt : n < count w 6 = omega (arith, c.records.ensures, equals-are w) in
     read_on w BadNumber _ (is_region 6 && ltb n (count w 6)) (a_record w 6 n refl lt)
     (rw (c.word-left.ensures, c.word-right.ensures) (ap (λ (x : List ℕ). done (6 ∷ x)) (record_words equal_coded w 6 n _ lt (omega arith))))

@@ -18,14 +18,14 @@ use Rattle.turns.proofs.Turning.{stopped, read_on}
 use Rattle.reads.proofs.Records.{no_record, a_record, record_words}
 use Rattle.reads.proofs.field_record.Goals as goal
 
-pub count-requires : goal.count-requires
-count-requires c = formed_laid _ c.requires
+pub records-requires : goal.records-requires
+records-requires c = formed_laid _ c.requires
 
-pub returns-then-count-n : goal.returns-then-count-n
+pub returns-then-records-n : goal.returns-then-records-n
 unfolding read_record_turn
-returns-then-count-n c =
+returns-then-records-n c =
     let w = c.args.image.now in
-    (stopped w BadNumber _ (is_region 2 && ltb c.args.n (count w 2)) (no_record w 2 c.args.n (omega (arith, c.count.ensures, fields-are w)))).says
+    (stopped w BadNumber _ (is_region 2 && ltb c.args.n (count w 2)) (no_record w 2 c.args.n (omega (arith, c.records.ensures, fields-are w)))).says
 
 pub word-name-requires-clause-laid : goal.word-name-requires-clause-laid
 word-name-requires-clause-laid c = formed_laid _ c.requires
@@ -42,6 +42,6 @@ returns c =
     let w = c.args.image.now in
     let n = c.args.n in
     let l = formed_laid w c.requires in
-    let lt : n < count w 2 = omega (arith, c.count.ensures, fields-are w) in
+    let lt : n < count w 2 = omega (arith, c.records.ensures, fields-are w) in
     read_on w BadNumber _ (is_region 2 && ltb n (count w 2)) (a_record w 2 n refl lt)
     (rw (c.word-name.ensures, c.word-entry.ensures, c.word-optional.ensures) (ap (λ (x : List ℕ). done (2 ∷ x)) (record_words field_coded w 2 n _ lt (omega arith))))

@@ -18,14 +18,14 @@ use Rattle.turns.proofs.Turning.{stopped, read_on}
 use Rattle.reads.proofs.Records.{no_record, a_record, record_words}
 use Rattle.reads.proofs.pending_record.Goals as goal
 
-pub count-requires : goal.count-requires
-count-requires c = formed_laid _ c.requires
+pub records-requires : goal.records-requires
+records-requires c = formed_laid _ c.requires
 
-pub returns-then-count-n : goal.returns-then-count-n
+pub returns-then-records-n : goal.returns-then-records-n
 unfolding read_record_turn
-returns-then-count-n c =
+returns-then-records-n c =
     let w = c.args.image.now in
-    (stopped w BadNumber _ (is_region 5 && ltb c.args.n (count w 5)) (no_record w 5 c.args.n (omega (arith, c.count.ensures, pending-are w)))).says
+    (stopped w BadNumber _ (is_region 5 && ltb c.args.n (count w 5)) (no_record w 5 c.args.n (omega (arith, c.records.ensures, pending-are w)))).says
 
 pub word-sub-requires-clause-laid : goal.word-sub-requires-clause-laid
 word-sub-requires-clause-laid c = formed_laid _ c.requires
@@ -39,6 +39,6 @@ returns c =
     let w = c.args.image.now in
     let n = c.args.n in
     let l = formed_laid w c.requires in
-    let lt : n < count w 5 = omega (arith, c.count.ensures, pending-are w) in
+    let lt : n < count w 5 = omega (arith, c.records.ensures, pending-are w) in
     read_on w BadNumber _ (is_region 5 && ltb n (count w 5)) (a_record w 5 n refl lt)
     (rw (c.word-sub.ensures, c.word-sup.ensures) (ap (λ (x : List ℕ). done (5 ∷ x)) (record_words pending_coded w 5 n _ lt (omega arith))))

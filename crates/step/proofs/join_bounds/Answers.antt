@@ -7,8 +7,8 @@ use Rattle.writes.proofs.Pending.{stated}
 use Rattle.step.proofs.Joining.{bound_fits, still_entry, bound_marked, joins, then_advance, advance_needs, pairs_need, bound_refused, bound_joined}
 use Rattle.step.proofs.join_bounds.Goals as goal
 
-pub count-n-requires : goal.count-n-requires
-count-n-requires c = formed_laid _ c.requires.t
+pub records-n-requires : goal.records-n-requires
+records-n-requires c = formed_laid _ c.requires.t
 
 pub repeats_bound-repeated-requires-clause-laid : goal.repeats_bound-repeated-requires-clause-laid
 repeats_bound-repeated-requires-clause-laid c = formed_laid _ c.requires.t

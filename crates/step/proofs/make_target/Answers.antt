@@ -18,14 +18,14 @@ union_contains_member-requires-clause-n_in_bounds c = (target_asks _ _ _ c.requi
 pub returns-then-union_contains_member : goal.returns-then-union_contains_member
 returns-then-union_contains_member c = target_old _ _ _ c.requires.negatable c.requires.good c.requires.shallow c.requires.sup_in_bounds _ _ c.negate.ensures _ c.in_ok-n.was _ c.union_contains_member.ensures c.if-union_contains_member.true
 
-pub count-number-requires : goal.count-number-requires
-count-number-requires c = target_laid _ _ _ c.requires.negatable c.requires.good c.requires.shallow c.requires.sup_in_bounds _ _ c.negate.ensures _ c.in_ok-n.was
+pub records-number-requires : goal.records-number-requires
+records-number-requires c = target_laid _ _ _ c.requires.negatable c.requires.good c.requires.shallow c.requires.sup_in_bounds _ _ c.negate.ensures _ c.in_ok-n.was
 
-pub capacity-requires : goal.capacity-requires
-capacity-requires c = target_laid _ _ _ c.requires.negatable c.requires.good c.requires.shallow c.requires.sup_in_bounds _ _ c.negate.ensures _ c.in_ok-n.was
+pub room-requires : goal.room-requires
+room-requires c = target_laid _ _ _ c.requires.negatable c.requires.good c.requires.shallow c.requires.sup_in_bounds _ _ c.negate.ensures _ c.in_ok-n.was
 
-pub returns-then-capacity-number : goal.returns-then-capacity-number
-returns-then-capacity-number c = target_none _ _ _ c.requires.negatable c.requires.good c.requires.shallow c.requires.sup_in_bounds _ _ c.negate.ensures _ c.in_ok-n.was _ c.union_contains_member.ensures c.if-union_contains_member.false _ _ c.count-number.ensures c.capacity.ensures c.if-capacity-number.true
+pub returns-then-room-number : goal.returns-then-room-number
+returns-then-room-number c = target_none _ _ _ c.requires.negatable c.requires.good c.requires.shallow c.requires.sup_in_bounds _ _ c.negate.ensures _ c.in_ok-n.was _ c.union_contains_member.ensures c.if-union_contains_member.false _ _ c.records-number.ensures c.room.ensures c.if-room-number.true
 
 pub word-requires-clause-laid : goal.word-requires-clause-laid
 word-requires-clause-laid c = target_laid _ _ _ c.requires.negatable c.requires.good c.requires.shallow c.requires.sup_in_bounds _ _ c.negate.ensures _ c.in_ok-n.was
@@ -46,7 +46,7 @@ pub overflow_add-spread-2 : goal.overflow_add-spread-2
 overflow_add-spread-2 c = omega (arith, sup_low _ _ _ c.requires.negatable c.requires.good c.requires.shallow c.requires.sup_in_bounds _ _ c.negate.ensures _ c.in_ok-n.was _ c.word.ensures, negation_low _ _ _ c.requires.negatable c.requires.good c.requires.shallow c.requires.sup_in_bounds _ _ c.negate.ensures _ c.in_ok-n.was _ c.word-2.ensures)
 
 pub push_entry-requires-clause-shown : goal.push_entry-requires-clause-shown
-push_entry-requires-clause-shown c = (target_room _ _ _ c.requires.negatable c.requires.good c.requires.shallow c.requires.sup_in_bounds _ _ c.negate.ensures _ c.in_ok-n.was _ c.union_contains_member.ensures c.if-union_contains_member.false _ _ c.count-number.ensures c.capacity.ensures c.if-capacity-number.false).0
+push_entry-requires-clause-shown c = (target_room _ _ _ c.requires.negatable c.requires.good c.requires.shallow c.requires.sup_in_bounds _ _ c.negate.ensures _ c.in_ok-n.was _ c.union_contains_member.ensures c.if-union_contains_member.false _ _ c.records-number.ensures c.room.ensures c.if-room-number.false).0
 
 pub returns : goal.returns
-returns c = target_new _ _ _ c.requires.negatable c.requires.good c.requires.shallow c.requires.sup_in_bounds _ _ c.negate.ensures _ c.in_ok-n.was _ c.union_contains_member.ensures c.if-union_contains_member.false _ _ c.count-number.ensures c.capacity.ensures c.if-capacity-number.false _ _ c.word.ensures c.word-2.ensures _ c.push_entry.ensures
+returns c = target_new _ _ _ c.requires.negatable c.requires.good c.requires.shallow c.requires.sup_in_bounds _ _ c.negate.ensures _ c.in_ok-n.was _ c.union_contains_member.ensures c.if-union_contains_member.false _ _ c.records-number.ensures c.room.ensures c.if-room-number.false _ _ c.word.ensures c.word-2.ensures _ c.push_entry.ensures

@@ -4,26 +4,26 @@ use Rattle.writes.proofs.Pending.{stated}
 use Rattle.step.proofs.Settling.{settle_full, settle_deep, settle_push, settle_went}
 use Rattle.step.proofs.settle.Goals as goal
 
-pub capacity-requires : goal.capacity-requires
-capacity-requires c = shown_laid c.requires.shown
+pub room-requires : goal.room-requires
+room-requires c = shown_laid c.requires.shown
 
-pub count-requires : goal.count-requires
-count-requires c = shown_laid c.requires.shown
+pub records-requires : goal.records-requires
+records-requires c = shown_laid c.requires.shown
 
-pub returns-then-capacity-count-clause-value : goal.returns-then-capacity-count-clause-value
-returns-then-capacity-count-clause-value c = (settle_full _ _ _ _ c.requires.shown c.requires.nonzero _ _ c.count.ensures c.capacity.ensures c.if-capacity-count.true _ c.undo.ensures).0
+pub returns-then-room-records-clause-value : goal.returns-then-room-records-clause-value
+returns-then-room-records-clause-value c = (settle_full _ _ _ _ c.requires.shown c.requires.nonzero _ _ c.records.ensures c.room.ensures c.if-room-records.true _ c.undo.ensures).0
 
-pub returns-then-capacity-count-clause-image_after : goal.returns-then-capacity-count-clause-image_after
-returns-then-capacity-count-clause-image_after c = (settle_full _ _ _ _ c.requires.shown c.requires.nonzero _ _ c.count.ensures c.capacity.ensures c.if-capacity-count.true _ c.undo.ensures).1
+pub returns-then-room-records-clause-image_after : goal.returns-then-room-records-clause-image_after
+returns-then-room-records-clause-image_after c = (settle_full _ _ _ _ c.requires.shown c.requires.nonzero _ _ c.records.ensures c.room.ensures c.if-room-records.true _ c.undo.ensures).1
 
 pub is_deep-requires-clause-laid : goal.is_deep-requires-clause-laid
 is_deep-requires-clause-laid c = shown_laid c.requires.shown
 
 pub returns-then-is_deep-clause-value : goal.returns-then-is_deep-clause-value
-returns-then-is_deep-clause-value c = (settle_deep _ _ _ _ c.requires.shown c.requires.nonzero _ _ c.count.ensures c.capacity.ensures c.if-capacity-count.false _ c.is_deep.ensures c.if-is_deep.true _ c.undo-then-is_deep.ensures).0
+returns-then-is_deep-clause-value c = (settle_deep _ _ _ _ c.requires.shown c.requires.nonzero _ _ c.records.ensures c.room.ensures c.if-room-records.false _ c.is_deep.ensures c.if-is_deep.true _ c.undo-then-is_deep.ensures).0
 
 pub returns-then-is_deep-clause-image_after : goal.returns-then-is_deep-clause-image_after
-returns-then-is_deep-clause-image_after c = (settle_deep _ _ _ _ c.requires.shown c.requires.nonzero _ _ c.count.ensures c.capacity.ensures c.if-capacity-count.false _ c.is_deep.ensures c.if-is_deep.true _ c.undo-then-is_deep.ensures).1
+returns-then-is_deep-clause-image_after c = (settle_deep _ _ _ _ c.requires.shown c.requires.nonzero _ _ c.records.ensures c.room.ensures c.if-room-records.false _ c.is_deep.ensures c.if-is_deep.true _ c.undo-then-is_deep.ensures).1
 
 pub put_consequence-requires-clause-shown_as : goal.put_consequence-requires-clause-shown_as
 put_consequence-requires-clause-shown_as c = (settle_push _ c.requires.shown c.requires.nonzero _ _ c.advance.ensures).0
@@ -35,7 +35,7 @@ pub end_if_done-requires : goal.end_if_done-requires
 end_if_done-requires c = shown_as c.put_consequence.ensures
 
 pub returns-clause-value : goal.returns-clause-value
-returns-clause-value c = (settle_went _ _ _ _ c.requires.shown c.requires.nonzero _ _ c.count.ensures c.capacity.ensures c.if-capacity-count.false _ c.is_deep.ensures c.if-is_deep.false _ c.advance.ensures _ (stated c.put_consequence.ensures c.end_if_done.ensures)).0
+returns-clause-value c = (settle_went _ _ _ _ c.requires.shown c.requires.nonzero _ _ c.records.ensures c.room.ensures c.if-room-records.false _ c.is_deep.ensures c.if-is_deep.false _ c.advance.ensures _ (stated c.put_consequence.ensures c.end_if_done.ensures)).0
 
 pub returns-clause-image_after : goal.returns-clause-image_after
-returns-clause-image_after c = (settle_went _ _ _ _ c.requires.shown c.requires.nonzero _ _ c.count.ensures c.capacity.ensures c.if-capacity-count.false _ c.is_deep.ensures c.if-is_deep.false _ c.advance.ensures _ (stated c.put_consequence.ensures c.end_if_done.ensures)).1
+returns-clause-image_after c = (settle_went _ _ _ _ c.requires.shown c.requires.nonzero _ _ c.records.ensures c.room.ensures c.if-room-records.false _ c.is_deep.ensures c.if-is_deep.false _ c.advance.ensures _ (stated c.put_consequence.ensures c.end_if_done.ensures)).1

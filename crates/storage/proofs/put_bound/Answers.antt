@@ -4,8 +4,8 @@ use Rattle.image.proofs.Laying.{formed_shown, formed_laid}
 use Rattle.storage.proofs.Replying.{bound_same, bound_full, bound_done}
 use Rattle.storage.proofs.put_bound.Goals as goal
 
-pub count-n-requires : goal.count-n-requires
-count-n-requires c = formed_laid _ c.requires
+pub records-n-requires : goal.records-n-requires
+records-n-requires c = formed_laid _ c.requires
 
 pub repeats_bound-requires-clause-laid : goal.repeats_bound-requires-clause-laid
 repeats_bound-requires-clause-laid c = formed_laid _ c.requires
@@ -15,12 +15,12 @@ returns-then-repeats_bound c =
     let r = bound_same _ _ _ _ c.requires (sym c.repeats_bound.ensures ∙ c.if-repeats_bound.true) in
     record { result_value = r.0; image_after = r.1 }
 
-pub capacity-requires : goal.capacity-requires
-capacity-requires c = formed_laid _ c.requires
+pub room-requires : goal.room-requires
+room-requires c = formed_laid _ c.requires
 
-pub returns-then-capacity-n : goal.returns-then-capacity-n
-returns-then-capacity-n c =
-    let r = bound_full _ _ _ _ c.requires (sym c.repeats_bound.ensures ∙ c.if-repeats_bound.false) _ _ c.count-n.ensures c.capacity.ensures c.if-capacity-n.true in
+pub returns-then-room-n : goal.returns-then-room-n
+returns-then-room-n c =
+    let r = bound_full _ _ _ _ c.requires (sym c.repeats_bound.ensures ∙ c.if-repeats_bound.false) _ _ c.records-n.ensures c.room.ensures c.if-room-n.true in
     record { result_value = r.0; image_after = r.1 }
 
 pub push_bound-requires-clause-shown : goal.push_bound-requires-clause-shown
@@ -28,5 +28,5 @@ push_bound-requires-clause-shown c = formed_shown _ c.requires
 
 pub returns : goal.returns
 returns c =
-    let r = bound_done _ _ _ _ c.requires (sym c.repeats_bound.ensures ∙ c.if-repeats_bound.false) _ _ c.count-n.ensures c.capacity.ensures c.if-capacity-n.false _ c.push_bound.ensures in
+    let r = bound_done _ _ _ _ c.requires (sym c.repeats_bound.ensures ∙ c.if-repeats_bound.false) _ _ c.records-n.ensures c.room.ensures c.if-room-n.false _ c.push_bound.ensures in
     record { result_value = r.0; image_after = r.1 }

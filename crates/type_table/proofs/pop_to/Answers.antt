@@ -7,14 +7,14 @@ use Rattle.type_table.proofs.pop_to.Goals as goal
 pub loop-image-init : goal.loop-image-init
 loop-image-init c = popped_start _ _ c.requires.shown c.requires.in_bounds
 
-pub count-requires : goal.count-requires
-count-requires c = shown_laid (popped_shows _ _ _ c.loop-image.invariant)
+pub records-requires : goal.records-requires
+records-requires c = shown_laid (popped_shows _ _ _ c.loop-image.invariant)
 
 pub pop_entry-requires-clause-shown : goal.pop_entry-requires-clause-shown
 pop_entry-requires-clause-shown c = popped_shows _ _ _ c.loop-image.invariant
 
 pub loop-image-smaller : goal.loop-image-smaller
-loop-image-smaller c = (popped_more _ _ _ c.loop-image.invariant _ (omega (arith, c.count.ensures, c.loop-image-test.true)) c.pop_entry.ensures).1
+loop-image-smaller c = (popped_more _ _ _ c.loop-image.invariant _ (omega (arith, c.records.ensures, c.loop-image-test.true)) c.pop_entry.ensures).1
 
 pub loop-image-preserved : goal.loop-image-preserved
-loop-image-preserved c = (popped_more _ _ _ c.loop-image.invariant _ (omega (arith, c.count.ensures, c.loop-image-test.true)) c.pop_entry.ensures).0
+loop-image-preserved c = (popped_more _ _ _ c.loop-image.invariant _ (omega (arith, c.records.ensures, c.loop-image-test.true)) c.pop_entry.ensures).0

@@ -4,11 +4,11 @@ use Rattle.image.proofs.Laying.{shown_laid}
 use Rattle.step.proofs.BoundPairs.{paired_start, paired_shown, paired_inside, paired_room, paired_more, paired_skip, paired_end}
 use Rattle.step.proofs.consequences.put_bound_pairs.Goals as goal
 
-pub count-n-requires : goal.count-n-requires
-count-n-requires c = shown_laid c.requires.midway
+pub records-n-requires : goal.records-n-requires
+records-n-requires c = shown_laid c.requires.midway
 
 pub loop-i-init : goal.loop-i-init
-loop-i-init c = paired_start _ _ _ _ _ c.requires.midway c.requires.side_len_bound c.count-n.ensures
+loop-i-init c = paired_start _ _ _ _ _ c.requires.midway c.requires.side_len_bound c.records-n.ensures
 
 pub belongs-requires-clause-laid : goal.belongs-requires-clause-laid
 belongs-requires-clause-laid c = shown_laid c.loop-i.invariant.shows
