@@ -1,6 +1,7 @@
 -- `of_opening`: what an opening answers, case by case.
 use Rattle.std.specs.Prelude.{Result}
 use mathlib.Core.Path.{sym, ap, ◌∙◌}
+use Rattle.model.specs.declared.Instalment.{Instalment}
 use Rattle.model.specs.declared.Refusal.{Refusal}
 use Rattle.model.specs.Told.{told_opening, steps_of}
 use Rattle.capi.specs.Answers.{answer_of}
