@@ -86,7 +86,7 @@ fn record_equal(image: &mut [u32], q: Question)
     if !is_recorded(q) {
         return;
     }
-    writes::push_equal(image, q.left, q.right);
+    writes::push::<Equals>(image, &[q.left, q.right]);
 }
 
 // Puts a question's pairs, the one worked first last.
