@@ -96,11 +96,11 @@ fn put_pairs(image: &mut [u32], q: Question)
     ensures { ShowsAs idle image.new (pending_to image.old (pending_in image.old ++ pairs_of q)) }
 {
     if !q.equal {
-        writes::put_asked(image, q.left, q.right);
+        writes::push::<Pending>(image, &[q.left, q.right]);
         return;
     }
-    writes::put_asked(image, q.right, q.left);
-    writes::put_asked(image, q.left, q.right); // worked first
+    writes::push::<Pending>(image, &[q.right, q.left]);
+    writes::push::<Pending>(image, &[q.left, q.right]); // worked first
 }
 
 // Asks a question: the first half of an opening.

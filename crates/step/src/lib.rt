@@ -41,7 +41,7 @@ fn advance(image: &mut [u32], sub: u32, sup: u32)
     ensures { Midway image.new (table_of (visit (sub ⊑ sup) (store_of image.old)) (before_last image.old)) }
 {
     writes::push::<Visited>(image, &[sub, sup]);
-    writes::pop_pending(image);
+    writes::pop::<Pending>(image);
 }
 
 // Takes the last pair off pending, with nothing to record and nothing to follow.
@@ -50,7 +50,7 @@ fn skip(image: &mut [u32])
     requires nonzero { 0 < length (pending_in image.old) }
     ensures { Shows image.new (pending_to image.old (before_last image.old)) }
 {
-    writes::pop_pending(image);
+    writes::pop::<Pending>(image);
     writes::end_if_done(image);
 }
 
@@ -186,7 +186,7 @@ fn settle(
         return Err(Refusal::TooDeep);
     }
     advance(image, sub, sup);
-    writes::put_consequence(image, c, target);
+    writes::push::<Pending>(image, &[c, target]);
     writes::end_if_done(image);
     Ok(Step::Went)
 }

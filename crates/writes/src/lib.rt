@@ -181,15 +181,6 @@ pub fn put_level(image: &mut [u32], i: u32, l: u32)
 // After start the state word is written where a question is opened and where it is ended, and nowhere else: what puts pairs on pending
 // and takes them off leaves it.
 
-// Puts a question's own pair behind the last pending one.
-pub fn put_asked(image: &mut [u32], sub: u32, sup: u32)
-    requires shown_as { ShownAs idle image.old }
-    requires image_len_bound { length (pending_in image.old) < (store_of image.old).capacities.pending }
-    ensures { ShowsAs idle image.new (pending_to image.old (pending_in image.old ++ ((sub ⊑ sup) ∷ []))) }
-{
-    push::<Pending>(image, &[sub, sup]);
-}
-
 // Opens the question whose pairs are pending.
 pub fn open_question(image: &mut [u32])
     requires shown_as { ShownAs idle image.old }
@@ -199,31 +190,13 @@ pub fn open_question(image: &mut [u32])
     image[image::format::STATE_AT] = image::format::ASKED;
 }
 
-// Puts a step's consequence behind the last pending pair.
-pub fn put_consequence(image: &mut [u32], sub: u32, sup: u32)
-    requires shown_as { ShownAs asked image.old }
-    requires image_len_bound { length (pending_in image.old) < (store_of image.old).capacities.pending }
-    ensures { ShowsAs asked image.new (pending_to image.old (pending_in image.old ++ ((sub ⊑ sup) ∷ []))) }
-{
-    push::<Pending>(image, &[sub, sup]);
-}
-
-// Takes the last pending pair off, and its words with it.
-pub fn pop_pending(image: &mut [u32])
-    requires shown_as { ShownAs asked image.old }
-    requires nonzero { 0 < length (pending_in image.old) }
-    ensures { ShowsAs asked image.new (pending_to image.old (take (length (pending_in image.old) - 1) (pending_in image.old))) }
-{
-    pop::<Pending>(image);
-}
-
 // Takes every pending pair off.
 fn clear_pending(image: &mut [u32])
     requires { ShownAs asked image.old }
     ensures { ShowsAs asked image.new (pending_to image.old []) }
 {
     while 0 < image[image::format::PENDING_COUNT_AT] {
-        pop_pending(image);
+        pop::<Pending>(image);
     }
 }
 
