@@ -86,7 +86,7 @@ fn record_equal(image: &mut [u32], q: Question)
     if !is_recorded(q) {
         return;
     }
-    writes::push_equal(image, q.left, q.right);
+    writes::push::<Equals>(image, &[q.left, q.right]);
 }
 
 // Puts a question's pairs, the one worked first last.
@@ -96,11 +96,11 @@ fn put_pairs(image: &mut [u32], q: Question)
     ensures { ShowsAs idle image.new (pending_to image.old (pending_in image.old ++ pairs_of q)) }
 {
     if !q.equal {
-        writes::put_asked(image, q.left, q.right);
+        writes::push::<Pending>(image, &[q.left, q.right]);
         return;
     }
-    writes::put_asked(image, q.right, q.left);
-    writes::put_asked(image, q.left, q.right); // worked first
+    writes::push::<Pending>(image, &[q.right, q.left]);
+    writes::push::<Pending>(image, &[q.left, q.right]); // worked first
 }
 
 // Asks a question: the first half of an opening.

@@ -11,7 +11,7 @@ ghost use Rattle.step.specs.Taken.{Midway};
 ghost use Rattle.step.specs.Put.{field_pair, count_in};
 
 use constrain::{FieldAsk, Pairs};
-use image::{Bounds, Fields};
+use image::{Bounds, Fields, Pending};
 use model::Attrset;
 
 // Puts what field record j asks of a on pending, if it asks for a pair.
@@ -25,7 +25,7 @@ fn put_field_pair(image: &mut [u32], a: Attrset, j: u32)
     let ask = constrain::asks(image, a, j);
     if let FieldAsk::Under(x) = ask {
         let entry = image::word::<Fields>(image, j, image::format::ENTRY_WORD);
-        writes::put_consequence(image, x, entry);
+        writes::push::<Pending>(image, &[x, entry]);
     }
 }
 
@@ -36,7 +36,7 @@ fn put_dynamic_pair(image: &mut [u32], a: Option<u32>, b: Option<u32>)
     ensures { Midway image.new (pending_to image.old (pending_in image.old ++ dynamic_pairs a b)) }
 {
     if let (Some(m), Some(n)) = (a, b) {
-        writes::put_consequence(image, m, n);
+        writes::push::<Pending>(image, &[m, n]);
     }
 }
 
@@ -76,10 +76,10 @@ pub fn put_pairs(image: &mut [u32], pairs: Pairs)
 {
     match pairs {
         Pairs::Nothing => {}
-        Pairs::One(a, b) => writes::put_consequence(image, a, b),
+        Pairs::One(a, b) => writes::push::<Pending>(image, &[a, b]),
         Pairs::Two(a, b, c, d) => {
-            writes::put_consequence(image, c, d);
-            writes::put_consequence(image, a, b)
+            writes::push::<Pending>(image, &[c, d]);
+            writes::push::<Pending>(image, &[a, b])
         }
         Pairs::Fields(a, b, _) => put_field_pairs(image, a, b),
     }
@@ -92,9 +92,9 @@ fn put_bound_pair(image: &mut [u32], side: u32, x: u32, b: u32)
     ensures { Midway image.new (pending_to image.old (pending_in image.old ++ (bound_pair side b x ∷ []))) }
 {
     if side == image::format::LOWER {
-        writes::put_consequence(image, x, b);
+        writes::push::<Pending>(image, &[x, b]);
     } else {
-        writes::put_consequence(image, b, x);
+        writes::push::<Pending>(image, &[b, x]);
     }
 }
 

@@ -40,8 +40,8 @@ fn advance(image: &mut [u32], sub: u32, sup: u32)
     requires nonzero { 0 < length (pending_in image.old) }
     ensures { Midway image.new (table_of (visit (sub ⊑ sup) (store_of image.old)) (before_last image.old)) }
 {
-    writes::push_visited(image, sub, sup);
-    writes::pop_pending(image);
+    writes::push::<Visited>(image, &[sub, sup]);
+    writes::pop::<Pending>(image);
 }
 
 // Takes the last pair off pending, with nothing to record and nothing to follow.
@@ -50,7 +50,7 @@ fn skip(image: &mut [u32])
     requires nonzero { 0 < length (pending_in image.old) }
     ensures { Shows image.new (pending_to image.old (before_last image.old)) }
 {
-    writes::pop_pending(image);
+    writes::pop::<Pending>(image);
     writes::end_if_done(image);
 }
 
@@ -100,7 +100,7 @@ fn fail(image: &mut [u32], sub: u32, sup: u32, failure: Failure) -> Result<Step,
     ensures image_after { image.new ≡ (taken image.old (failing (visit (sub ⊑ sup) (store_of image.old)) failure)).words }
 {
     room_for(image, 0)?;
-    writes::push_visited(image, sub, sup);
+    writes::push::<Visited>(image, &[sub, sup]);
     writes::end_question(image);
     fill_break(image, failure);
     Ok(Step::Failed(failure))
@@ -186,7 +186,7 @@ fn settle(
         return Err(Refusal::TooDeep);
     }
     advance(image, sub, sup);
-    writes::put_consequence(image, c, target);
+    writes::push::<Pending>(image, &[c, target]);
     writes::end_if_done(image);
     Ok(Step::Went)
 }
@@ -255,7 +255,7 @@ fn add_bound(image: &mut [u32], repeated: bool, v: u32, side: u32, b: u32)
     ensures { Shows image.new (bounds_to image.old (add_bound v side b (bounds_all image.old))) }
 {
     if !repeated {
-        writes::push_bound(image, v, side, b);
+        writes::push::<Bounds>(image, &[v, side, b]);
     }
 }
 

@@ -103,7 +103,7 @@ pub fn put_bound(image: &mut [u32], v: u32, side: u32, b: u32) -> Result<(), Ref
     if image::room::<Bounds>(image) <= n {
         return Err(Refusal::NoRoom(image::format::BOUNDS));
     }
-    writes::push_bound(image, v, side, b);
+    writes::push::<Bounds>(image, &[v, side, b]);
     Ok(())
 }
 

@@ -74,7 +74,7 @@ fn pop_to(image: &mut [u32], old: u32)
     ensures { Shows image.new (entries_to image.old (take old (entries_of image.old))) }
 {
     while old < image::records::<Entries>(image) {
-        writes::pop_entry(image);
+        writes::pop::<Entries>(image);
     }
 }
 
@@ -155,7 +155,7 @@ fn put_fields(image: &mut [u32], fields: &[u32], n: usize)
 {
     for i in 0..n {
         let at = image::format::FIELD_WIDTH * i;
-        writes::push_field(image, fields[at], fields[at + 1], fields[at + 2]);
+        writes::push::<Fields>(image, &[fields[at], fields[at + 1], fields[at + 2]]);
     }
 }
 

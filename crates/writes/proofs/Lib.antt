@@ -1,6 +1,4 @@
-pub mod Placing
-pub mod Packed
-pub mod Slots
 pub mod Places
+pub mod Growing
 pub mod Runs
 pub mod Pending

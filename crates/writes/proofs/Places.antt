@@ -13,7 +13,7 @@ use Rattle.image.specs.Laid.{Laid}
 use Rattle.image.specs.Shown.{ShowsAs, Shows, Shown, store_of, entries_of, fields_in, bounds_all, visited_in, pending_in, equals_in, entries_to}
 use Rattle.image.proofs.Laying.{shown_laid}
 use Rattle.image.specs.Reading.{entries_count, fields_count, bounds_count, visited_count, pending_count, equals_count}
-use Rattle.writes.proofs.Slots.{entries_slot, slot_put}
+use Rattle.writes.specs.Slots.{entries_slot, slot_put}
 
 -- what omega needs of words that show a table: the layout, and the table's counts and capacities as header words
 pub record Facts (w : List ℕ) : Type 0 where

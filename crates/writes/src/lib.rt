@@ -3,20 +3,24 @@
 
 #![tactic(auto)]
 
-ghost use Rattle.std.specs.Prelude.{◌≡◌, [], ◌∷◌, ◌++◌, ◌+◌, ◌-◌, ◌*◌, ◌≤◌, ◌<◌, length, set, take, replicate};
+ghost use Rattle.std.specs.Prelude.{◌≡◌, ℕ, List, [], ◌∷◌, ◌++◌, ◌+◌, ◌-◌, ◌*◌, ◌≤◌, ◌<◌, length, set, take};
 ghost use Rattle.std.proofs.lemmas.List.Edits.{sets};
 ghost use Rattle.model.specs.Format.{idle, asked, entry_width, header_words};
-ghost use Rattle.model.specs.Table.{◌⊑◌};
-ghost use Rattle.model.specs.Image.{capacity, count, table};
+ghost use Rattle.model.specs.Table.{Table, ◌⊑◌};
+ghost use Rattle.model.specs.Image.{table};
 ghost use Rattle.model.specs.Making.{changed, with_negation, with_mark};
 ghost use Rattle.model.specs.Calls.{with_x};
-ghost use Rattle.image.specs.Laid.{Laid, At};
-ghost use Rattle.image.specs.Shown.{Shows, Shown, ShowsAs, ShownAs, store_of, entries_of, fields_in, bounds_all, visited_in, pending_in, equals_in};
-ghost use Rattle.image.specs.Shown.{entries_to, fields_to, bounds_to, visited_to, pending_to, equals_to, broken_to, level_to};
+ghost use Rattle.image.specs.Laid.{Laid};
+ghost use Rattle.image.specs.Shown.{Shows, Shown, ShowsAs, ShownAs, store_of, entries_of, pending_in};
+ghost use Rattle.image.specs.Shown.{entries_to, pending_to, broken_to, level_to};
 ghost use Rattle.image.specs.Stores.{appended, removed};
 ghost use Rattle.image.specs.Records.{entry_made};
+ghost use Rattle.writes.specs.Grown.{entries_pushed, fields_pushed, bounds_pushed, visited_pushed, pending_pushed, equals_pushed};
+ghost use Rattle.writes.specs.Grown.{entries_popped, fields_popped, bounds_popped, visited_popped, pending_popped, equals_popped};
+ghost use Rattle.writes.specs.Grown.{entries_grown, fields_grown, bounds_grown, visited_grown, pending_grown, equals_grown};
+ghost use Rattle.writes.specs.Grown.{entries_shrunk, fields_shrunk, bounds_shrunk, visited_shrunk, pending_shrunk, equals_shrunk};
 
-use image::Entries;
+use image::{Bounds, Entries, Equals, Fields, Pending, Region, Visited};
 
 // Writes a record's words into a region that is lent from its offset on.
 pub fn put_row(region: &mut [u32], start: usize, row: &[u32])
@@ -26,60 +30,109 @@ pub fn put_row(region: &mut [u32], start: usize, row: &[u32])
     region[start..start + row.len()].copy_from_slice(row);
 }
 
+// What a region says of the table when a record is put behind its last, and when its last is taken off; then what the words show.
+pub trait Grows: Region {
+    ghost pushed: { List ℕ → List ℕ → Table };
+
+    ghost popped: { List ℕ → Table };
+
+    ghost grown: { (state : ℕ) (w : List ℕ) → ShownAs state w → (r : List ℕ) → length r ≡ Self.WIDTH → Self.many w < Self.room w → ShowsAs state (appended w Self.NUMBER Self.WIDTH r) (pushed w r) };
+
+    ghost shrunk: { (state : ℕ) (w : List ℕ) → ShownAs state w → 0 < Self.many w → ShowsAs state (removed w Self.NUMBER Self.WIDTH) (popped w) };
+}
+
+impl Grows for Entries {
+    ghost pushed = { entries_pushed };
+
+    ghost popped = { entries_popped };
+
+    ghost grown = { entries_grown };
+
+    ghost shrunk = { entries_shrunk };
+}
+
+impl Grows for Fields {
+    ghost pushed = { fields_pushed };
+
+    ghost popped = { fields_popped };
+
+    ghost grown = { fields_grown };
+
+    ghost shrunk = { fields_shrunk };
+}
+
+impl Grows for Bounds {
+    ghost pushed = { bounds_pushed };
+
+    ghost popped = { bounds_popped };
+
+    ghost grown = { bounds_grown };
+
+    ghost shrunk = { bounds_shrunk };
+}
+
+impl Grows for Visited {
+    ghost pushed = { visited_pushed };
+
+    ghost popped = { visited_popped };
+
+    ghost grown = { visited_grown };
+
+    ghost shrunk = { visited_shrunk };
+}
+
+impl Grows for Pending {
+    ghost pushed = { pending_pushed };
+
+    ghost popped = { pending_popped };
+
+    ghost grown = { pending_grown };
+
+    ghost shrunk = { pending_shrunk };
+}
+
+impl Grows for Equals {
+    ghost pushed = { equals_pushed };
+
+    ghost popped = { equals_popped };
+
+    ghost grown = { equals_grown };
+
+    ghost shrunk = { equals_shrunk };
+}
+
 // Puts a record behind the last of a region.
-fn append(image: &mut [u32], region: usize, width: usize, row: &[u32])
-    requires at { At image.old region width }
-    requires region_bound { count image.old region < capacity image.old region }
-    requires row_len { length row.now ≡ width }
-    ensures { image.new ≡ appended image.old region width row.now }
+pub fn push<R: Grows>(image: &mut [u32], row: &[u32])
+    requires laid { Laid image.old }
+    requires room { R.many image.old < R.room image.old }
+    requires row_len { length row.now ≡ R.WIDTH }
+    ensures { (state : ℕ) → ShownAs state image.old → ShowsAs state image.new (R.pushed image.old row.now) }
 {
-    let at = image::wide(image[image::format::OFFSET_AT + image::format::REGION_STEP * region]);
-    let n = image[image::format::COUNT_AT + image::format::REGION_STEP * region];
-    put_row(&mut image[at..], width * image::wide(n), row);
-    image[image::format::COUNT_AT + image::format::REGION_STEP * region] = n + 1;
+    let n = image::records::<R>(image);
+    let at = R::start(image) + R::WIDTH * image::wide(n);
+    put_row(image, at, row);
+    image[image::format::COUNT_AT + image::format::REGION_STEP * R::NUMBER] = n + 1;
 }
 
-// Takes the last record off a region; its words are then those of `zeros`.
-fn remove(image: &mut [u32], region: usize, width: usize, zeros: &[u32])
-    requires at { At image.old region width }
-    requires region_nonzero { 0 < count image.old region }
-    requires zeros_value { zeros.now ≡ replicate width 0 }
-    ensures { image.new ≡ removed image.old region width }
+// Takes the last record of a region off, and its words with it.
+pub fn pop<R: Grows>(image: &mut [u32])
+    requires laid { Laid image.old }
+    requires nonzero { 0 < R.many image.old }
+    ensures { (state : ℕ) → ShownAs state image.old → ShowsAs state image.new (R.popped image.old) }
 {
-    let at = image::wide(image[image::format::OFFSET_AT + image::format::REGION_STEP * region]);
-    let n = image[image::format::COUNT_AT + image::format::REGION_STEP * region] - 1;
-    put_row(&mut image[at..], width * image::wide(n), zeros);
-    image[image::format::COUNT_AT + image::format::REGION_STEP * region] = n;
+    let n = image::records::<R>(image) - 1;
+    let at = R::start(image) + R::WIDTH * image::wide(n);
+    image[at..at + R::WIDTH].fill(0);
+    image[image::format::COUNT_AT + image::format::REGION_STEP * R::NUMBER] = n;
 }
 
-// Puts an entry behind the last.
+// Puts an entry behind the last, by its words; no negation of it is cached.
 pub fn push_entry(image: &mut [u32], kind: u32, x: u32, y: u32, z: u32, flags: u32, spread: u32)
     requires shown { Shown image.old }
     requires image_len_bound { length (entries_of image.old) < (store_of image.old).capacities.entries }
     ensures { Shows image.new (entries_to image.old (entries_of image.old ++ (entry_made kind x y z flags spread ∷ []))) }
 {
-    let row = [kind, x, y, z, flags, spread, 0];
-    append(
-        image,
-        image::format::IN_ENTRIES,
-        image::format::ENTRY_WIDTH,
-        &row,
-    );
-}
-
-// Takes the last entry off, and its words with it.
-pub fn pop_entry(image: &mut [u32])
-    requires shown { Shown image.old }
-    requires nonzero { 0 < length (entries_of image.old) }
-    ensures { Shows image.new (entries_to image.old (take (length (entries_of image.old) - 1) (entries_of image.old))) }
-{
-    let zeros = [0, 0, 0, 0, 0, 0, 0];
-    remove(
-        image,
-        image::format::IN_ENTRIES,
-        image::format::ENTRY_WIDTH,
-        &zeros,
-    );
+    push::<Entries>(image, &[kind, x, y, z, flags, spread, 0]);
 }
 
 // Writes word j of entry i.
@@ -125,83 +178,8 @@ pub fn put_level(image: &mut [u32], i: u32, l: u32)
     put_entry_word(image, i, image::format::X_WORD, l);
 }
 
-// Puts a field record behind the last.
-pub fn push_field(image: &mut [u32], name: u32, entry: u32, optional: u32)
-    requires shown { Shown image.old }
-    requires image_len_bound { length (fields_in image.old) < (store_of image.old).capacities.fields }
-    ensures { Shows image.new (fields_to image.old (fields_in image.old ++ (record { name = name; entry = entry; optional = optional } ∷ []))) }
-{
-    let row = [name, entry, optional];
-    append(
-        image,
-        image::format::IN_FIELDS,
-        image::format::FIELD_WIDTH,
-        &row,
-    );
-}
-
-// Puts a bound behind the last.
-pub fn push_bound(image: &mut [u32], variable: u32, side: u32, bound: u32)
-    requires shown { Shown image.old }
-    requires image_len_bound { length (bounds_all image.old) < (store_of image.old).capacities.bounds }
-    ensures { Shows image.new (bounds_to image.old (bounds_all image.old ++ (record { variable = variable; side = side; bound = bound } ∷ []))) }
-{
-    let row = [variable, side, bound];
-    append(
-        image,
-        image::format::IN_BOUNDS,
-        image::format::BOUND_WIDTH,
-        &row,
-    );
-}
-
-// Records a pair as visited.
-pub fn push_visited(image: &mut [u32], sub: u32, sup: u32)
-    requires shown { Shown image.old }
-    requires image_len_bound { length (visited_in image.old) < (store_of image.old).capacities.visited }
-    ensures { Shows image.new (visited_to image.old (visited_in image.old ++ ((sub ⊑ sup) ∷ []))) }
-{
-    let row = [sub, sup];
-    append(
-        image,
-        image::format::IN_VISITED,
-        image::format::VISITED_WIDTH,
-        &row,
-    );
-}
-
-// Records a pair as asked equal.
-pub fn push_equal(image: &mut [u32], left: u32, right: u32)
-    requires shown { Shown image.old }
-    requires image_len_bound { length (equals_in image.old) < (store_of image.old).capacities.equals }
-    ensures { Shows image.new (equals_to image.old (equals_in image.old ++ ((left ⊑ right) ∷ []))) }
-{
-    let row = [left, right];
-    append(
-        image,
-        image::format::IN_EQUALS,
-        image::format::EQUALS_WIDTH,
-        &row,
-    );
-}
-
 // After start the state word is written where a question is opened and where it is ended, and nowhere else: what puts pairs on pending
 // and takes them off leaves it.
-
-// Puts a question's own pair behind the last pending one.
-pub fn put_asked(image: &mut [u32], sub: u32, sup: u32)
-    requires shown_as { ShownAs idle image.old }
-    requires image_len_bound { length (pending_in image.old) < (store_of image.old).capacities.pending }
-    ensures { ShowsAs idle image.new (pending_to image.old (pending_in image.old ++ ((sub ⊑ sup) ∷ []))) }
-{
-    let row = [sub, sup];
-    append(
-        image,
-        image::format::IN_PENDING,
-        image::format::PENDING_WIDTH,
-        &row,
-    );
-}
 
 // Opens the question whose pairs are pending.
 pub fn open_question(image: &mut [u32])
@@ -212,43 +190,13 @@ pub fn open_question(image: &mut [u32])
     image[image::format::STATE_AT] = image::format::ASKED;
 }
 
-// Puts a step's consequence behind the last pending pair.
-pub fn put_consequence(image: &mut [u32], sub: u32, sup: u32)
-    requires shown_as { ShownAs asked image.old }
-    requires image_len_bound { length (pending_in image.old) < (store_of image.old).capacities.pending }
-    ensures { ShowsAs asked image.new (pending_to image.old (pending_in image.old ++ ((sub ⊑ sup) ∷ []))) }
-{
-    let row = [sub, sup];
-    append(
-        image,
-        image::format::IN_PENDING,
-        image::format::PENDING_WIDTH,
-        &row,
-    );
-}
-
-// Takes the last pending pair off, and its words with it.
-pub fn pop_pending(image: &mut [u32])
-    requires shown_as { ShownAs asked image.old }
-    requires nonzero { 0 < length (pending_in image.old) }
-    ensures { ShowsAs asked image.new (pending_to image.old (take (length (pending_in image.old) - 1) (pending_in image.old))) }
-{
-    let zeros = [0, 0];
-    remove(
-        image,
-        image::format::IN_PENDING,
-        image::format::PENDING_WIDTH,
-        &zeros,
-    );
-}
-
 // Takes every pending pair off.
 fn clear_pending(image: &mut [u32])
     requires { ShownAs asked image.old }
     ensures { ShowsAs asked image.new (pending_to image.old []) }
 {
     while 0 < image[image::format::PENDING_COUNT_AT] {
-        pop_pending(image);
+        pop::<Pending>(image);
     }
 }
 

@@ -25,17 +25,17 @@ returns-then-is_deep-clause-value c = (settle_deep _ _ _ _ c.requires.shown c.re
 pub returns-then-is_deep-clause-image_after : goal.returns-then-is_deep-clause-image_after
 returns-then-is_deep-clause-image_after c = (settle_deep _ _ _ _ c.requires.shown c.requires.nonzero _ _ c.records.ensures c.room.ensures c.if-room-records.false _ c.is_deep.ensures c.if-is_deep.true _ c.undo-then-is_deep.ensures).1
 
-pub put_consequence-requires-clause-shown_as : goal.put_consequence-requires-clause-shown_as
-put_consequence-requires-clause-shown_as c = (settle_push _ c.requires.shown c.requires.nonzero _ _ c.advance.ensures).0
+pub push-requires-clause-laid : goal.push-requires-clause-laid
+push-requires-clause-laid c = shown_laid c.advance.ensures
 
-pub put_consequence-requires-clause-image_len_bound : goal.put_consequence-requires-clause-image_len_bound
-put_consequence-requires-clause-image_len_bound c = (settle_push _ c.requires.shown c.requires.nonzero _ _ c.advance.ensures).1
+pub push-requires-clause-room : goal.push-requires-clause-room
+push-requires-clause-room c = (settle_push _ c.requires.shown c.requires.nonzero _ _ c.advance.ensures).1
 
 pub end_if_done-requires : goal.end_if_done-requires
-end_if_done-requires c = shown_as c.put_consequence.ensures
+end_if_done-requires c = shown_as (c.push.ensures _ (settle_push _ c.requires.shown c.requires.nonzero _ _ c.advance.ensures).0)
 
 pub returns-clause-value : goal.returns-clause-value
-returns-clause-value c = (settle_went _ _ _ _ c.requires.shown c.requires.nonzero _ _ c.records.ensures c.room.ensures c.if-room-records.false _ c.is_deep.ensures c.if-is_deep.false _ c.advance.ensures _ (stated c.put_consequence.ensures c.end_if_done.ensures)).0
+returns-clause-value c = (settle_went _ _ _ _ c.requires.shown c.requires.nonzero _ _ c.records.ensures c.room.ensures c.if-room-records.false _ c.is_deep.ensures c.if-is_deep.false _ c.advance.ensures _ (stated (c.push.ensures _ (settle_push _ c.requires.shown c.requires.nonzero _ _ c.advance.ensures).0) c.end_if_done.ensures)).0
 
 pub returns-clause-image_after : goal.returns-clause-image_after
-returns-clause-image_after c = (settle_went _ _ _ _ c.requires.shown c.requires.nonzero _ _ c.records.ensures c.room.ensures c.if-room-records.false _ c.is_deep.ensures c.if-is_deep.false _ c.advance.ensures _ (stated c.put_consequence.ensures c.end_if_done.ensures)).1
+returns-clause-image_after c = (settle_went _ _ _ _ c.requires.shown c.requires.nonzero _ _ c.records.ensures c.room.ensures c.if-room-records.false _ c.is_deep.ensures c.if-is_deep.false _ c.advance.ensures _ (stated (c.push.ensures _ (settle_push _ c.requires.shown c.requires.nonzero _ _ c.advance.ensures).0) c.end_if_done.ensures)).1

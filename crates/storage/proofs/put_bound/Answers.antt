@@ -23,10 +23,10 @@ returns-then-room-n c =
     let r = bound_full _ _ _ _ c.requires (sym c.repeats_bound.ensures ∙ c.if-repeats_bound.false) _ _ c.records-n.ensures c.room.ensures c.if-room-n.true in
     record { result_value = r.0; image_after = r.1 }
 
-pub push_bound-requires-clause-shown : goal.push_bound-requires-clause-shown
-push_bound-requires-clause-shown c = formed_shown _ c.requires
+pub push-requires-clause-laid : goal.push-requires-clause-laid
+push-requires-clause-laid c = formed_laid _ c.requires
 
 pub returns : goal.returns
 returns c =
-    let r = bound_done _ _ _ _ c.requires (sym c.repeats_bound.ensures ∙ c.if-repeats_bound.false) _ _ c.records-n.ensures c.room.ensures c.if-room-n.false _ c.push_bound.ensures in
+    let r = bound_done _ _ _ _ c.requires (sym c.repeats_bound.ensures ∙ c.if-repeats_bound.false) _ _ c.records-n.ensures c.room.ensures c.if-room-n.false _ (c.push.ensures _ (formed_shown _ c.requires)) in
     record { result_value = r.0; image_after = r.1 }

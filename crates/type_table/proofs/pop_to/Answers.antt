@@ -10,11 +10,11 @@ loop-image-init c = popped_start _ _ c.requires.shown c.requires.in_bounds
 pub records-requires : goal.records-requires
 records-requires c = shown_laid (popped_shows _ _ _ c.loop-image.invariant)
 
-pub pop_entry-requires-clause-shown : goal.pop_entry-requires-clause-shown
-pop_entry-requires-clause-shown c = popped_shows _ _ _ c.loop-image.invariant
+pub pop-requires-clause-laid : goal.pop-requires-clause-laid
+pop-requires-clause-laid c = shown_laid (popped_shows _ _ _ c.loop-image.invariant)
 
 pub loop-image-smaller : goal.loop-image-smaller
-loop-image-smaller c = (popped_more _ _ _ c.loop-image.invariant _ (omega (arith, c.records.ensures, c.loop-image-test.true)) c.pop_entry.ensures).1
+loop-image-smaller c = (popped_more _ _ _ c.loop-image.invariant _ (omega (arith, c.records.ensures, c.loop-image-test.true)) (c.pop.ensures _ (popped_shows _ _ _ c.loop-image.invariant))).1
 
 pub loop-image-preserved : goal.loop-image-preserved
-loop-image-preserved c = (popped_more _ _ _ c.loop-image.invariant _ (omega (arith, c.records.ensures, c.loop-image-test.true)) c.pop_entry.ensures).0
+loop-image-preserved c = (popped_more _ _ _ c.loop-image.invariant _ (omega (arith, c.records.ensures, c.loop-image-test.true)) (c.pop.ensures _ (popped_shows _ _ _ c.loop-image.invariant))).0

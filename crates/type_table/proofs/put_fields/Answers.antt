@@ -1,5 +1,6 @@
 -- `put_fields`: puts the n fields of a list behind the last.
 use native.Mathlib.Omega.{arith}
+use Rattle.image.proofs.Laying.{shown_laid}
 use Rattle.type_table.proofs.Attrsets.{fields_inside, fielded_start, fielded_shows, fielded_room, fielded_more}
 use Rattle.type_table.proofs.put_fields.Goals as goal
 
@@ -15,11 +16,11 @@ bounds-fields-at-in-loop-i c = omega (arith, fields_inside c.args.fields.now c.a
 pub bounds-fields-at-in-loop-i-2 : goal.bounds-fields-at-in-loop-i-2
 bounds-fields-at-in-loop-i-2 c = omega (arith, fields_inside c.args.fields.now c.args.n c.loop-i.i c.requires.n_value c.loop-i-test.true)
 
-pub push_field-requires-clause-shown : goal.push_field-requires-clause-shown
-push_field-requires-clause-shown c = fielded_shows _ _ _ _ c.loop-i.invariant
+pub push-requires-clause-laid : goal.push-requires-clause-laid
+push-requires-clause-laid c = shown_laid (fielded_shows _ _ _ _ c.loop-i.invariant)
 
-pub push_field-requires-clause-image_len_bound : goal.push_field-requires-clause-image_len_bound
-push_field-requires-clause-image_len_bound c = fielded_room _ _ _ _ c.loop-i.invariant _ c.requires.n_value c.loop-i-test.true c.requires.n_len_bound
+pub push-requires-clause-room : goal.push-requires-clause-room
+push-requires-clause-room c = fielded_room _ _ _ _ c.loop-i.invariant _ c.requires.n_value c.loop-i-test.true c.requires.n_len_bound
 
 pub loop-i-preserved : goal.loop-i-preserved
-loop-i-preserved c = fielded_more _ _ _ _ c.loop-i.invariant _ (omega (arith, c.requires.n_value, c.loop-i-test.true)) c.push_field.ensures
+loop-i-preserved c = fielded_more _ _ _ _ c.loop-i.invariant _ (omega (arith, c.requires.n_value, c.loop-i-test.true)) (c.push.ensures _ (fielded_shows _ _ _ _ c.loop-i.invariant))

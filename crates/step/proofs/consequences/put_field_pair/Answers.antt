@@ -7,3 +7,6 @@ asks-ask-requires-clause-laid c = shown_laid c.requires.midway
 
 pub word-entry-requires-clause-laid : goal.word-entry-requires-clause-laid
 word-entry-requires-clause-laid c = shown_laid c.requires.midway
+
+pub push-requires-clause-laid : goal.push-requires-clause-laid
+push-requires-clause-laid c = shown_laid c.requires.midway

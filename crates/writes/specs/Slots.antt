@@ -17,8 +17,8 @@ use Rattle.image.specs.Laid.{At}
 use Rattle.image.specs.Shown.{ShowsAs}
 use Rattle.image.specs.Stores.{appended, removed}
 use Rattle.image.specs.Reading.{before_end}
-use Rattle.writes.proofs.Placing.{ShowsParts, count_is, capacity_is, shows_at, shows_put, shows_stored, shows_pushed}
-use Rattle.writes.proofs.Packed.{packed_pushed, packed_popped, packed_put}
+use Rattle.writes.specs.Placing.{ShowsParts, count_is, capacity_is, shows_at, shows_put, shows_stored, shows_pushed}
+use Rattle.writes.specs.Packed.{packed_pushed, packed_popped, packed_put}
 
 -- `holds`, `parts` and `front` are by refl
 pub record Slot {A : Type 0} (code : A → List ℕ) (width k : ℕ) (room : Table → ℕ) (get : Table → List A) (put : List A → Table → Table) : Type 0 where

@@ -11,7 +11,7 @@ use Rattle.model.specs.Lists.{flat}
 use Rattle.model.specs.Parts.{stored, pushed}
 use Rattle.model.specs.Image.{blanks, region, packed}
 use Rattle.laws.proofs.Regions.{Coded, flat_length}
-use Rattle.writes.proofs.Placing.{set_right}
+use Rattle.writes.specs.Placing.{set_right}
 
 sets_over : (p q z v : List ℕ) (n : ℕ) → length p ≡ n → length q ≡ length v → sets (p ++ (q ++ z)) n v ≡ p ++ (v ++ z)
 sets_over p q z v n h e =

@@ -1,0 +1,4 @@
+pub mod Placing
+pub mod Packed
+pub mod Slots
+pub mod Grown
