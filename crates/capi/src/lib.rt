@@ -1,6 +1,6 @@
 // The calls for C: lent words come as a pointer and a count of words, every number as a uint32_t, every answer as one struct.
 // Each is the call that it wraps: its answer is `answer_of` of what the model's call says, its words are the model's.
-// include/sheafwinch.h tells a C programmer the same.
+// include/sheafwinch.h tells a C programmer the same. C has a function for each call, so they stay as many, alike as they are.
 
 #![tactic(auto)]
 

@@ -39,7 +39,7 @@ pub fn record_in(image: &[u32], region: u32, n: u32) -> Result<Record, Refusal>
     }
 }
 
-// A record of region 1.
+// A record of region 1. One function for each region: its record has words of its own, and a case of `Record`.
 fn entry_record(image: &[u32], n: u32) -> Result<Record, Refusal>
     requires { T (well_formed image.now) }
     ensures { told_record result ≡ (response_of image.now (read_record_turn 1 n image.now)).says }

@@ -1,5 +1,6 @@
 // The calls on an image. Each tests the image first, then hands it on to a core that requires it well formed, in crates `changes`,
-// `questions` and `reads`. Its contract is the model's definition of that call: `perform` in crates/model/specs/Calls.antt.
+// `questions` and `reads`. Its contract is the model's definition of that call: `perform` in crates/model/specs/Calls.antt. There is a
+// function for each call, alike as they are: crate capi exports each to C, and bindings and docs have them by these names.
 
 #![tactic(auto)]
 

@@ -7,10 +7,10 @@ ghost use Rattle.std.specs.Prelude.{◌≡◌, ℕ, List, [], ◌∷◌, ◌++�
 ghost use Rattle.std.proofs.lemmas.List.Edits.{sets};
 ghost use Rattle.model.specs.Format.{idle, asked, entry_width, header_words};
 ghost use Rattle.model.specs.Table.{Table, ◌⊑◌};
-ghost use Rattle.model.specs.Image.{table};
+ghost use Rattle.model.specs.Image.{capacity, count, table};
 ghost use Rattle.model.specs.Making.{changed, with_negation, with_mark};
 ghost use Rattle.model.specs.Calls.{with_x};
-ghost use Rattle.image.specs.Laid.{Laid};
+ghost use Rattle.image.specs.Laid.{Laid, At};
 ghost use Rattle.image.specs.Shown.{Shows, Shown, ShowsAs, ShownAs, store_of, entries_of, pending_in};
 ghost use Rattle.image.specs.Shown.{entries_to, pending_to, broken_to, level_to};
 ghost use Rattle.image.specs.Stores.{appended, removed};
@@ -101,6 +101,19 @@ impl Grows for Equals {
     ghost shrunk = { equals_shrunk };
 }
 
+// Puts a record behind the last of a region, whose words are lent on from its offset.
+fn append(image: &mut [u32], region: usize, width: usize, row: &[u32])
+    requires at { At image.old region width }
+    requires region_bound { count image.old region < capacity image.old region }
+    requires row_len { length row.now ≡ width }
+    ensures { image.new ≡ appended image.old region width row.now }
+{
+    let at = image::wide(image[image::format::OFFSET_AT + image::format::REGION_STEP * region]);
+    let n = image[image::format::COUNT_AT + image::format::REGION_STEP * region];
+    put_row(&mut image[at..], width * image::wide(n), row);
+    image[image::format::COUNT_AT + image::format::REGION_STEP * region] = n + 1;
+}
+
 // Puts a record behind the last of a region.
 pub fn push<R: Grows>(image: &mut [u32], row: &[u32])
     requires laid { Laid image.old }
@@ -108,10 +121,7 @@ pub fn push<R: Grows>(image: &mut [u32], row: &[u32])
     requires row_len { length row.now ≡ R.WIDTH }
     ensures { (state : ℕ) → ShownAs state image.old → ShowsAs state image.new (R.pushed image.old row.now) }
 {
-    let n = image::records::<R>(image);
-    let at = R::start(image) + R::WIDTH * image::wide(n);
-    put_row(image, at, row);
-    image[image::format::COUNT_AT + image::format::REGION_STEP * R::NUMBER] = n + 1;
+    append(image, R::NUMBER, R::WIDTH, row);
 }
 
 // Takes the last record of a region off, and its words with it.
