@@ -27,7 +27,9 @@ pub fn put_row(region: &mut [u32], start: usize, row: &[u32])
     requires { start + length row.now ≤ length region.old }
     ensures { region.new ≡ sets region.old start row.now }
 {
-    region[start..start + row.len()].copy_from_slice(row);
+    for i in 0..row.len() {
+        region[start + i] = row[i];
+    }
 }
 
 // What a region says of the table when a record is put behind its last, and when its last is taken off; then what the words show.
