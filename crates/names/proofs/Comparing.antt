@@ -1,11 +1,15 @@
--- What the order of two slices, and their equality, tell is how the names compare. Assumes nothing.
+-- What the order of two slices, and their equality, tell is how the names compare; and how a comparison goes on byte by byte.
+-- Assumes nothing.
 use Prim.Native.Nat.{ℕ, ◌+◌, ◌-◌, ◌≤◌, ◌<◌}
+use native.Mathlib.Numerals.{add-one}
 use native.Mathlib.Omega.{arith}
 use mathlib.Core.Path.{◌≡◌, refl, sym, ◌∙◌}
 use mathlib.Core.List.{List, [], ◌∷◌}
 use mathlib.Core.Bool.{Bool, true, false, cond}
 use lib.Dec.{ltb, eqb}
-use borrow.Author.Tests.{ltb-true, ltb-false, eq-eqb, ne_eqb}
+use lib.ListN.{length, get_or, drop}
+use lib.Seq.{drop-cons}
+use borrow.Author.Tests.{ltb-true, ltb-false, eq-eqb, ne_eqb, le-ltb}
 use Rattle.std.specs.Ordering.{nat_cmp, is_eq, is_ge}
 use Rattle.std.specs.Str.{bytes_eq}
 use Rattle.std.specs.Cmp.Lexicographic.{slice_cmp}
@@ -31,6 +35,28 @@ told_cmp [] [] = refl
 told_cmp [] (y ∷ ys) = refl
 told_cmp (x ∷ xs) [] = refl
 told_cmp (x ∷ xs) (y ∷ ys) = by_byte x y xs ys (told_cmp xs ys) (ltb x y) refl (ltb y x) refl
+
+by_first : (x y r : ℕ) → (x ≡ y → ⊥) → (t : Bool) → ltb x y ≡ t → (u : Bool) → ltb y x ≡ u → told_order (nat_cmp x y) ≡ cond t before (cond u after r)
+by_first x y r d true p u q = rw p
+by_first x y r d false p true q = rw (p, ne_eqb x y d)
+by_first x y r d false p false q =
+    let le : y ≤ x = ltb-false x y p in
+    let ge : x ≤ y = ltb-false y x q in
+    absurd (d (omega arith))
+
+-- what is known once the first i bytes of both agree
+module _ (a b : List ℕ) (i : ℕ) (so : compare_names a b ≡ compare_names (drop i a) (drop i b)) where
+  pub differ : i < length a → i < length b → (get_or a i 0 ≡ get_or b i 0 → ⊥)
+      → told_order (nat_cmp (get_or a i 0) (get_or b i 0)) ≡ compare_names a b
+  unfolding compare_names
+  differ h k d = rw (so, drop-cons a i 0, drop-cons b i 0) (by_first (get_or a i 0) (get_or b i 0) _ d _ refl _ refl)
+
+  pub agree : i < length a → i < length b → get_or a i 0 ≡ get_or b i 0 → compare_names a b ≡ compare_names (drop (i + 1) a) (drop (i + 1) b)
+  unfolding compare_names
+  agree h k e =
+      let l : get_or b i 0 ≤ get_or a i 0 = omega arith in
+      let m : get_or a i 0 ≤ get_or b i 0 = omega arith in
+      rw (so, drop-cons a i 0, drop-cons b i 0, le-ltb _ _ l, le-ltb _ _ m, add-one)
 
 is_same : (o : Ordering) → is_eq o ≡ eqb (told_order o) same
 is_same Less = refl

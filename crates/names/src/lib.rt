@@ -3,7 +3,7 @@
 
 #![tactic(auto)]
 
-ghost use Rattle.std.specs.Prelude.{◌≡◌, ◌+◌, ◌*◌, ◌<◌, ◌≤◌, length, true, false, Ok, MatchOption, MatchResult};
+ghost use Rattle.std.specs.Prelude.{◌≡◌, ◌+◌, ◌*◌, ◌<◌, ◌≤◌, ◌&&◌, length, true, false, Ok, MatchOption, MatchResult};
 ghost use Rattle.model.specs.Told.{done, told_reply};
 ghost use Rattle.model.specs.declared.Refusal.TheVariants.{BadNames, BadNumber};
 ghost use Rattle.names.specs.Names.{u16_at, name_count, name_offset, bytes_at, name_at, header_whole, first_zero, none_falls, last_right, few_names, none_long, ascending, compare_names, name_of, name_number, names_right, check_names, check_name, count_names, compare_at, find_name, show_name, shown_at, place_name};
@@ -90,18 +90,6 @@ impl<'a> Header<'a> {
         self.offset(0) == 0
     }
 
-    // Whether no offset falls below the one before it.
-    fn none_falls(&self) -> bool
-        ensures { result ≡ none_falls self.now.list.now }
-    {
-        for i in 0..self.count() {
-            if self.offset(i + 1) < self.offset(i) {
-                return false;
-            }
-        }
-        true
-    }
-
     // Whether the last offset is the number of bytes left.
     fn last_right(&self) -> bool
         ensures { result ≡ last_right self.now.list.now }
@@ -116,11 +104,14 @@ impl<'a> Header<'a> {
         self.count() <= NAMES_MOST
     }
 
-    // Whether no name is too long.
-    fn none_long(&self) -> bool
-        ensures { result ≡ none_long self.now.list.now }
+    // Whether no offset falls below the one before it, and no name is too long.
+    fn offsets_right(&self) -> bool
+        ensures { result ≡ (none_falls self.now.list.now && none_long self.now.list.now) }
     {
         for i in 0..self.count() {
+            if self.offset(i + 1) < self.offset(i) {
+                return false;
+            }
             if self.offset(i) + NAME_MOST < self.offset(i + 1) {
                 return false;
             }
@@ -137,17 +128,22 @@ struct Names<'a> {
 }
 
 impl<'a> Names<'a> {
-    // The names of a list that is not malformed.
+    // The names of a list that is not malformed. Inlined, so that a call of a short list costs no more than its tests.
     #[tactic(auto, using(crate::proofs::NamesLaying::laid), unfolding(crate::specs::Names::names_right, model::specs::Lists::all_of))]
+    #[inline(always)]
     fn read(list: &'a [u8]) -> Result<Self, Refusal>
         ensures { MatchResult result (λ n. (n.header.list.now ≡ list.entry.now) × (n.header.list.ref_ptr ≡ list.entry.ref_ptr) × (names_right list.entry.now ≡ true)) (λ r. (r ≡ BadNames) × (names_right list.entry.now ≡ false)) }
     {
         let header = Header::read(list).ok_or(Refusal::BadNames)?;
-        if !(header.first_zero() && header.none_falls() && header.last_right()) {
+        if !(header.first_zero()
+            && header.last_right()
+            && header.few_names()
+            && header.offsets_right())
+        {
             return Err(Refusal::BadNames);
         }
         let names = Names { header };
-        if header.few_names() && header.none_long() && names.ascending() {
+        if names.ascending() {
             Ok(names)
         } else {
             Err(Refusal::BadNames)
@@ -202,9 +198,27 @@ impl<'a> Names<'a> {
     }
 }
 
+// So many bytes are compared one by one: most names differ in their first few.
+const NEAR: usize = 4;
+
 // How two names compare, each a part of a list: by unsigned bytes, a proper prefix first.
-#[tactic(auto, using(crate::proofs::Comparing::told_cmp))]
+#[inline(always)]
 pub fn compare_parts(a: &[u8], b: &[u8]) -> Ordering
+    ensures { told_order result ≡ compare_names a.now b.now }
+{
+    let near = a.len().min(b.len()).min(NEAR);
+    for i in 0..near {
+        if a[i] != b[i] {
+            return a[i].cmp(&b[i]);
+        }
+    }
+    compare_groups(&a[near..], &b[near..])
+}
+
+// How two parts compare that are alike so far: the library compares groups of bytes. Never inlined, so that its callers stay small.
+#[tactic(auto, using(crate::proofs::Comparing::told_cmp))]
+#[inline(never)]
+fn compare_groups(a: &[u8], b: &[u8]) -> Ordering
     ensures { told_order result ≡ compare_names a.now b.now }
 {
     a.cmp(b)
