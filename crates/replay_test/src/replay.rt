@@ -29,20 +29,27 @@ impl Replay {
         })
     }
 
-    // Runs the lines of a block, each read into `line`.
+    // Runs the lines of a block, each read into `line`. A line that is empty is counted, and costs no more.
     pub fn run(&mut self, block: &[u8], line: &mut Line) -> io::Result<()> {
-        for text in block.split_inclusive(|b| *b == b'\n') {
-            self.run_line(text.strip_suffix(b"\n").unwrap_or(text), line)?;
+        let mut from = 0;
+        for (at, byte) in block.iter().enumerate() {
+            if *byte == b'\n' {
+                add(&mut self.report.tally.lines, 1);
+                if from < at {
+                    self.run_line(&block[from..at], line)?;
+                }
+                from = at + 1;
+            }
+        }
+        if from < block.len() {
+            add(&mut self.report.tally.lines, 1);
+            self.run_line(&block[from..], line)?;
         }
         Ok(())
     }
 
-    // Runs a line.
+    // Runs a line that is not empty.
     fn run_line(&mut self, text: &[u8], line: &mut Line) -> io::Result<()> {
-        add(&mut self.report.tally.lines, 1);
-        if text.is_empty() {
-            return Ok(());
-        }
         if line.read(text)? {
             self.act(line)
         } else {

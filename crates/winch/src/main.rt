@@ -8,6 +8,7 @@ mod makes;
 mod read_verbs;
 mod session;
 mod settings;
+mod table;
 
 use incident::tell_incident;
 use script::help::{print_help, print_usage};
@@ -123,13 +124,14 @@ fn open(rt: &HostRuntime, path: &[u8]) -> io::Result<fs::File> {
 fn run_input<R: Read + Drop, W: Write>(
     rt: &HostRuntime,
     out: &mut W,
-    input: R,
+    mut input: R,
     path: &[u8],
     is_drawn: bool,
 ) -> io::Result<()> {
-    let mut script = Vec::new(rt.alloc());
-    if let Err(error) = input.take(SCRIPT_MOST as u64 + 1).read_to_end(&mut script) {
-        return fail(rt, path, error);
+    let mut script = vec![in rt.alloc(); 0u8; SCRIPT_MOST + 1]?;
+    match fill(&mut input, script.as_mut_slice()) {
+        Ok(size) => script.truncate(size),
+        Err(error) => return fail(rt, path, error),
     }
     if SCRIPT_MOST < script.len() {
         let mut err = rt.stderr();
@@ -138,6 +140,20 @@ fn run_input<R: Read + Drop, W: Write>(
         return writeln!(err, ": a script has at most {SCRIPT_MOST} bytes");
     }
     run(rt, out, script.as_slice(), is_drawn)
+}
+
+// Reads until the bytes are full or the input ends, and tells how many it read. Each read has all the room that is left, since a socket
+// or pipe of messages drops what one read has no room for.
+fn fill<R: Read>(input: &mut R, bytes: &mut [u8]) -> io::Result<usize> {
+    let mut size: usize = 0;
+    while size < bytes.len() {
+        let n = input.read(&mut bytes[size..])?;
+        if n == 0 {
+            break;
+        }
+        size += n;
+    }
+    Ok(size)
 }
 
 // Runs a script; tells how many lines were wrong.

@@ -1,4 +1,5 @@
 // A script that is run, one line after the other: a verb and its words, obeyed in the table's own words and with its names.
+use crate::table::Table;
 use dumps::shown::Shown;
 use image::Capacities;
 use script::args::read_all;
@@ -21,7 +22,7 @@ pub struct Session<'a, W> {
     pub rt: &'a HostRuntime,
     pub out: &'a mut W,
     pub desk: Desk<'a>,
-    pub table: Vec<u32>,
+    pub table: Table,
 }
 
 impl<'a, W: Write> Session<'a, W> {
@@ -31,7 +32,7 @@ impl<'a, W: Write> Session<'a, W> {
             rt,
             out,
             desk: desk::empty(rt.alloc()),
-            table: Vec::new(rt.alloc()),
+            table: Table::new(rt.alloc()),
         }
     }
 
@@ -230,7 +231,7 @@ impl<'a, W: Write> Session<'a, W> {
         self.desk.names = make_list(&self.desk, script)?;
         self.desk.is_listed = !self.desk.given.is_empty();
         self.desk.labels.clear();
-        self.table.resize(size_of(c), 0)?;
+        self.table.resize(size_of(c))?;
         let names = self.desk.names.as_slice();
         sheafwinch::start(
             self.table.as_mut_slice(),
@@ -252,7 +253,7 @@ impl<'a, W: Write> Session<'a, W> {
 }
 
 // The table as it is shown; no method, since what shows it borrows `out` beside it.
-pub fn shown<'b>(desk: &'b Desk<'_>, table: &'b Vec<u32>) -> Shown<'b> {
+pub fn shown<'b>(desk: &'b Desk<'_>, table: &'b Table) -> Shown<'b> {
     Shown {
         labels: desk.labels.as_slice(),
         names: desk.names.as_slice(),
