@@ -1,4 +1,7 @@
 // The calls of the small scripts, and what each answers. A call that is refused is held to the words that stood before it.
+ghost use Rattle.std.specs.Prelude.{◌≡◌, length, IfOk};
+ghost use Rattle.table_words.specs.Records.{size_of};
+
 use crate::answers::{Answered, Told};
 use image::Capacities;
 use operators::Primitive;
@@ -65,7 +68,9 @@ impl Call {
 }
 
 // As many words as an image of these capacities takes.
-pub fn room(alloc: Global, capacities: Capacities) -> Result<Vec<u32>, AllocError> {
+pub fn room(alloc: Global, capacities: Capacities) -> Result<Vec<u32>, AllocError>
+    ensures { IfOk result (λ words. length words.items ≡ size_of capacities) }
+{
     Ok(vec![in alloc; 7; size_of(capacities)]?)
 }
 

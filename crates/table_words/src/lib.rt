@@ -6,6 +6,7 @@
 mod records;
 
 ghost use Rattle.std.specs.Prelude.{◌≡◌, ◌≤◌, length, slice_index_or};
+ghost use Rattle.table_words.specs.Records.{size_of};
 
 use image::Capacities;
 use model::Failure;
@@ -96,7 +97,9 @@ pub fn is_small(c: Capacities) -> bool {
 }
 
 // How many words a table of these capacities has.
-pub fn size_of(c: Capacities) -> usize {
+pub fn size_of(c: Capacities) -> usize
+    ensures { result ≡ size_of c }
+{
     image::format::HEADER_WORDS
         + image::format::ENTRY_WIDTH * c.entries as usize
         + image::format::FIELD_WIDTH * c.fields as usize
